@@ -1,0 +1,16 @@
+//! Typed numbers: ticks, masses, node and arc numbers, probabilities in units of ten to the minus eighteenth, and counters.
+#![tactic(auto)]
+
+mod grain;
+mod heft;
+mod ids;
+mod no_memory;
+mod scale;
+mod steps;
+
+pub use grain::Grain;
+pub use heft::Heft;
+pub use ids::{ArcId, Mass, NodeId, Tick};
+pub use no_memory::NoMemory;
+pub use scale::Scale;
+pub use steps::Steps;
