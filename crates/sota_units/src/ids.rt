@@ -4,7 +4,7 @@ ghost use Rattle.std.specs.Prelude.{ℕ, ◌≡◌};
 use std::marker::Model;
 
 /// A number of ticks, the unit of time. A histogram's ticks are at least 1.
-#[derive(Clone, Copy, Debug, PartialEq, Eq, PartialOrd, Ord)]
+#[derive(Clone, Copy, Debug, Default, PartialEq, Eq, PartialOrd, Ord)]
 pub struct Tick(pub u32);
 
 impl Model for Tick {
@@ -25,7 +25,7 @@ impl Tick {
 }
 
 /// A part of a histogram's total: the chance of a tick, over the network's scale `Q`.
-#[derive(Clone, Copy, Debug, PartialEq, Eq, PartialOrd, Ord)]
+#[derive(Clone, Copy, Debug, Default, PartialEq, Eq, PartialOrd, Ord)]
 pub struct Mass(pub u32);
 
 impl Model for Mass {
