@@ -1,5 +1,5 @@
 -- Units of table values, and the two roundings.
-use Rattle.std.specs.Prelude.{ℕ, ◌+◌, ◌-◌, ◌/◌, ◌^◌}
+use Rattle.std.specs.Prelude.{ℕ, ◌+◌, ◌-◌, ◌/◌}
 
 -- probability one, in units of ten to the minus eighteenth
 abbrev pub ONE : ℕ

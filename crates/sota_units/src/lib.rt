@@ -6,6 +6,7 @@ mod heft;
 mod ids;
 mod no_memory;
 mod scale;
+mod spelling;
 mod steps;
 
 pub use grain::Grain;
@@ -13,4 +14,5 @@ pub use heft::Heft;
 pub use ids::{ArcId, Mass, NodeId, Tick};
 pub use no_memory::NoMemory;
 pub use scale::Scale;
+pub use spelling::grain_text;
 pub use steps::Steps;
