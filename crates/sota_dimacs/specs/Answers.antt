@@ -1,5 +1,5 @@
 -- Answers of the reader, unless memory ran out.
-use Rattle.std.specs.Prelude.{◌≡◌, ℕ, Option, Some, None, Result, Ok, Err}
+use Rattle.std.specs.Prelude.{◌≡◌, Option, Some, None, Result, Ok, Err}
 use Rattle.sota_dimacs.specs.declared.graph.RawGraph.{RawGraph}
 use Rattle.sota_dimacs.specs.declared.fault.GraphFault.{GraphFault}
 use Rattle.sota_dimacs.specs.declared.fault.GraphFault.TheVariants.{NoMemory}

@@ -1,8 +1,8 @@
 -- Graph texts: the lines are tried in order, and the first fault found is the text's.
-use Rattle.std.specs.Prelude.{ℕ, ◌≤◌, List, [], ◌∷◌, ◌++◌, Bool, ◌&&◌, nat_lt, nat_le, All, length, map, Option, Some, None, Result, Ok, Err, if◌then◌else◌}
+use Rattle.std.specs.Prelude.{◌≡◌, ℕ, ◌+◌, ◌≤◌, List, [], ◌∷◌, ◌++◌, Bool, true, false, ◌==◌, ◌&&◌, nat_lt, nat_le, All, length, map, filter, Option, Some, None, Result, Ok, Err, if◌then◌else◌}
 use Rattle.std.specs.List.{filter_map}
 use Rattle.std.specs.Option.{option_or}
-use Rattle.sota_text.specs.Text.{numbered_lines}
+use Rattle.sota_text.specs.Text.{text_lines}
 use Rattle.sota_dimacs.specs.Lines.{kind_of, problem_said, arc_said}
 use Rattle.sota_dimacs.specs.declared.graph.RawArc.{RawArc}
 use Rattle.sota_dimacs.specs.declared.graph.RawGraph.{RawGraph}
@@ -35,10 +35,12 @@ arcs_in lines = filter_map arc_said lines
 
 -- ---- faults
 
-abbrev pub size_fault : Problem → Option GraphFault
-size_fault problem =
-    if nat_lt MAX_NODES problem.nodes then Some (TooManyNodes problem.nodes)
-    else (if nat_lt MAX_ARCS problem.arcs then Some (ArcLimit problem.arcs) else None)
+-- a graph has a node
+abbrev pub size_fault : ℕ → Problem → Option GraphFault
+size_fault number problem =
+    if problem.nodes == 0 then Some (BadLine number)
+    else (if nat_lt MAX_NODES problem.nodes then Some (TooManyNodes problem.nodes)
+    else (if nat_lt MAX_ARCS problem.arcs then Some (ArcLimit problem.arcs) else None))
 
 abbrev pub arc_fault : Problem → ℕ → ℕ → RawArc → Option GraphFault
 arc_fault problem found number arc =
@@ -48,7 +50,7 @@ arc_fault problem found number arc =
 
 abbrev pub problem_line_fault : Option Problem → ℕ → Option Problem → Option GraphFault
 problem_line_fault (Some before) number problem = Some (SecondProblem number)
-problem_line_fault None number (Some problem) = size_fault problem
+problem_line_fault None number (Some problem) = size_fault number problem
 problem_line_fault None number None = Some (BadLine number)
 
 abbrev pub arc_line_fault : Option Problem → ℕ → ℕ → Option RawArc → Option GraphFault
@@ -63,38 +65,35 @@ line_fault problem found number (ProblemLine line) = problem_line_fault problem 
 line_fault problem found number (ArcLine line) = arc_line_fault problem found number line
 line_fault problem found number Unknown = Some (BadLine number)
 
--- the fault of the first line that has one, of lines that stand behind others
-abbrev pub first_fault : List LineKind → List (ℕ × LineKind) → Option GraphFault
+-- the fault of the first line that has one, of lines that stand behind others; lines are counted from 1
+abbrev pub first_fault : List LineKind → List LineKind → Option GraphFault
 first_fault before [] = None
 first_fault before (line ∷ lines) =
-    option_or (line_fault (problem_in before) (length (arcs_in before)) line.0 line.1) (first_fault (before ++ line.1 ∷ []) lines)
+    option_or (line_fault (problem_in before) (length (arcs_in before)) (length before + 1) line) (first_fault (before ++ line ∷ []) lines)
 
 -- ---- the whole text
 
--- the graph that lines without a fault tell, or the fault of the whole
+-- the graph of a problem and arcs without a fault of a line, or the fault of the whole
 abbrev pub graph_of : Option Problem → List RawArc → Result RawGraph GraphFault
 graph_of None arcs = Err NoProblem
 graph_of (Some problem) arcs =
     if nat_lt (length arcs) problem.arcs then Err (TooFewArcs (length arcs))
     else Ok (record { nodes = problem.nodes; arcs = arcs })
 
+-- a line's fault comes before those of the whole
 abbrev pub fault_or : Option GraphFault → Result RawGraph GraphFault → Result RawGraph GraphFault
 fault_or (Some fault) graph = Err fault
 fault_or None graph = graph
 
-abbrev pub numbered_kinds : List ℕ → List (ℕ × LineKind)
-numbered_kinds bytes = map (λ line. (line.0, kind_of line.1)) (numbered_lines bytes)
+abbrev pub graph_of_lines : List LineKind → Result RawGraph GraphFault
+graph_of_lines lines = fault_or (first_fault [] lines) (graph_of (problem_in lines) (arcs_in lines))
 
-abbrev pub kinds : List (ℕ × LineKind) → List LineKind
-kinds lines = map (λ line. line.1) lines
-
--- the graph of lines
-abbrev pub graph_of_lines : List (ℕ × LineKind) → Result RawGraph GraphFault
-graph_of_lines lines = fault_or (first_fault [] lines) (graph_of (problem_in (kinds lines)) (arcs_in (kinds lines)))
+abbrev pub text_kinds : List ℕ → List LineKind
+text_kinds bytes = map kind_of (text_lines bytes)
 
 -- the graph of a text, or its fault
 abbrev pub graph_text : List ℕ → Result RawGraph GraphFault
-graph_text bytes = graph_of_lines (numbered_kinds bytes)
+graph_text bytes = graph_of_lines (text_kinds bytes)
 
 -- ---- graphs
 
@@ -108,3 +107,18 @@ pub record IsGraph (graph : RawGraph) : Type 0 where
   pub few_arcs : length graph.arcs ≤ MAX_ARCS
   pub tails : All (λ arc. IsNode graph.nodes arc.tail) graph.arcs
   pub heads : All (λ arc. IsNode graph.nodes arc.head) graph.arcs
+
+-- neither blank nor a comment
+abbrev pub is_said : LineKind → Bool
+is_said Skipped = false
+is_said _ = true
+
+-- a problem line, and then a line for each arc
+abbrev pub graph_lines : RawGraph → List LineKind
+graph_lines graph = ProblemLine (Some (record { nodes = graph.nodes; arcs = length graph.arcs })) ∷ map (λ arc. ArcLine (Some arc)) graph.arcs
+
+-- without its blank lines and comments, the text of a graph within the limits is its lines; this says again which texts are accepted,
+-- without faults and their order
+pub record IsTextOf (bytes : List ℕ) (graph : RawGraph) : Type 0 where
+  pub lines : filter is_said (text_kinds bytes) ≡ graph_lines graph
+  pub limits : IsGraph graph

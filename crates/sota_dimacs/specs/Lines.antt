@@ -1,5 +1,5 @@
 -- What a line of a graph text says by itself. The line kinds are those of the DIMACS shortest-path format.
-use Rattle.std.specs.Prelude.{ℕ, List, [], ◌∷◌, Bool, ◌==◌, ◌&&◌, nat_lt, slice_index, Option, Some, None, if◌then◌else◌, codes}
+use Rattle.std.specs.Prelude.{ℕ, List, [], ◌∷◌, Bool, ◌==◌, slice_index, Option, Some, None, if◌then◌else◌, codes}
 use Rattle.std.specs.Str.{bytes_eq}
 use Rattle.sota_text.specs.Text.{fields_of, number_of}
 use Rattle.sota_dimacs.specs.declared.graph.RawArc.{RawArc}
@@ -17,13 +17,13 @@ abbrev pub three : List (List ℕ) → Option (List ℕ × List ℕ × List ℕ)
 three (a ∷ b ∷ c ∷ []) = Some (a, b, c)
 three _ = None
 
--- 'sp N M' behind the 'p': N nodes, at least one, and M arcs
+-- 'sp N M' behind the 'p': N nodes and M arcs
 abbrev pub problem_of : List (List ℕ) → Option Problem
 problem_of words = do
   word ← three words
   nodes ← number_of word.1
   arcs ← number_of word.2
-  if bytes_eq word.0 (codes "sp") && nat_lt 0 nodes then Some (record { nodes = nodes; arcs = arcs }) else None
+  if bytes_eq word.0 (codes "sp") then Some (record { nodes = nodes; arcs = arcs }) else None
 
 -- 'U V W' behind the 'a': an arc from U to V with weight W
 abbrev pub arc_of : List (List ℕ) → Option RawArc

@@ -84,7 +84,7 @@ fn read_problem(line: &[u8], fields: Fields<'_>) -> Option<Problem>
     let (profile, nodes, arcs) = three_fields(line, fields)?;
     let nodes = read_u32(nodes)?;
     let arcs = read_u32(arcs)?;
-    if profile != b"sp".as_slice() || nodes == 0 {
+    if profile != b"sp".as_slice() {
         return None;
     }
     Some(Problem { nodes, arcs })

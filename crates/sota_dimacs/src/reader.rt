@@ -2,7 +2,8 @@
 ghost use Rattle.std.specs.Prelude.{◌≡◌, ◌≤◌, ◌<◌, ◌^◌, ◌++◌, length, option_to_list, IfOk, OnOk};
 ghost use Rattle.std.specs.Option.{option_or};
 ghost use Rattle.sota_dimacs.specs.Lines.{problem_said, arc_said};
-ghost use Rattle.sota_dimacs.specs.Graph.{line_fault, problem_line_fault, arc_line_fault, is_node, graph_of, graph_text, IsGraph};
+ghost use Rattle.sota_dimacs.specs.Graph.{line_fault, problem_line_fault, arc_line_fault, is_node, graph_of, graph_text, IsGraph, IsTextOf};
+ghost use Rattle.sota_dimacs.specs.declared.graph.RawGraph.{RawGraph};
 ghost use Rattle.sota_dimacs.specs.Answers.{Reads, Adds};
 
 use crate::line::{LineKind, Problem, read_line};
@@ -30,6 +31,9 @@ pub fn read_graph(alloc: Global, bytes: &[u8]) -> Result<RawGraph, GraphFault>
     requires { length bytes.now ≤ 67108864 }
     ensures meaning { Reads result (graph_text bytes.now) }
     ensures valid { IfOk result (λ graph. IsGraph graph) }
+    // The same without faults: what is accepted is a graph's text, and each graph's text is accepted.
+    ensures accepted { IfOk result (λ graph. IsTextOf bytes.now graph) }
+    ensures accepts { (graph : RawGraph) → IsTextOf bytes.now graph → graph_text bytes.now ≡ Ok graph }
 {
     let mut seen = Seen {
         problem: None,
@@ -69,6 +73,9 @@ impl Seen {
         let Some(sizes) = problem else {
             return Err(GraphFault::BadLine(number));
         };
+        if sizes.nodes == 0 {
+            return Err(GraphFault::BadLine(number));
+        }
         if sizes.nodes > MAX_NODES {
             return Err(GraphFault::TooManyNodes(sizes.nodes));
         }
@@ -103,16 +110,15 @@ impl Seen {
 
     /// The graph that the lines tell, where they are all.
     fn finish(self) -> Result<RawGraph, GraphFault>
-        requires { length self.arcs < 2 ^ 32 }
         ensures { result ≡ graph_of self.problem self.arcs }
     {
         let Seen { problem, arcs } = self;
         let Some(problem) = problem else {
             return Err(GraphFault::NoProblem);
         };
-        let found = arcs.as_slice().len() as u32;
-        if found < problem.arcs {
-            return Err(GraphFault::TooFewArcs(found));
+        let found = arcs.as_slice().len();
+        if found < problem.arcs as usize {
+            return Err(GraphFault::TooFewArcs(found as u32));
         }
         Ok(RawGraph {
             nodes: problem.nodes,
