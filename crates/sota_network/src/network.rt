@@ -2,6 +2,7 @@
 ghost use Rattle.std.specs.Prelude.{ℕ, ◌≡◌, ◌≤◌, ◌==◌, ◌↔◌, List, length, map, IfOk, IsSome, Option};
 ghost use Rattle.std.specs.List.{All};
 ghost use Rattle.std.specs.Option.{option_copied};
+ghost use Rattle.sota_units.specs.Rounding.{SCALE_LIMIT};
 ghost use Rattle.sota_hist.specs.Time.{IsTime, total};
 ghost use Rattle.sota_network.specs.Network.{Net, IsNet, IsNode, arc_at, NODE_LIMIT, ARC_LIMIT};
 ghost use Rattle.sota_network.specs.Numbers.{numbers};
@@ -32,6 +33,7 @@ pub struct Network {
 
 impl Model for Network {
     ghost use Rattle.std.specs.Prelude.{ℕ, ◌≡◌, ◌≤◌, length, map};
+    ghost use Rattle.sota_units.specs.Rounding.{SCALE_LIMIT};
     ghost use Rattle.sota_network.specs.Network.{Net, IsNet, NODE_LIMIT, ARC_LIMIT};
     ghost use Rattle.sota_network.specs.Adjacency.{grouped};
 
@@ -42,6 +44,7 @@ impl Model for Network {
     ghost invariant = { λ a.
         IsNet (record { nodes = a.nodes; scale = a.scale; arcs = a.arcs.items })
         × ((1 ≤ a.nodes) × (a.nodes ≤ NODE_LIMIT))
+        × (a.scale ≤ SCALE_LIMIT)
         × (length a.arcs.items ≤ ARC_LIMIT)
         × (a.leaving ≡ grouped a.nodes (map (λ arc. arc.tail) a.arcs.items))
         × (a.entering ≡ grouped a.nodes (map (λ arc. arc.head) a.arcs.items)) };
@@ -94,7 +97,8 @@ impl Network {
 
     /// The denominator of all masses.
     pub fn scale(&self) -> Scale
-        ensures { result ≡ self.now.scale }
+        ensures value { result ≡ self.now.scale }
+        ensures within { (1 ≤ self.now.scale) × (self.now.scale ≤ SCALE_LIMIT) }
     {
         self.scale
     }
@@ -110,7 +114,8 @@ impl Network {
 
     /// All arcs: number `e` stands at index `e - 1`.
     pub fn arcs(&self) -> &[Arc]
-        ensures { result.now ≡ self.now.arcs }
+        ensures value { result.now ≡ self.now.arcs }
+        ensures within { length result.now ≤ ARC_LIMIT }
     {
         self.arcs.as_slice()
     }

@@ -5,9 +5,9 @@ ghost use Rattle.sota_units.specs.Rounding.{ONE, SCALE_LIMIT};
 ghost use Rattle.sota_hist.specs.Time.{IsTime, total};
 ghost use Rattle.sota_network.specs.Network.{IsNet, IsNode, NODE_LIMIT, ARC_LIMIT};
 ghost use Rattle.sota_network.specs.Numbers.{listed};
-ghost use Rattle.sota_network.specs.Grid.{weighed, plain_sum, BUDGET_LIMIT};
-ghost use Rattle.sota_network.specs.Plan.{in_table, IsPlan};
-ghost use Rattle.sota_network.specs.Bests.{bests_of, rounded, settled, chosen};
+ghost use Rattle.sota_network.specs.Grid.{BUDGET_LIMIT};
+ghost use Rattle.sota_network.specs.Plan.{IsPlan};
+ghost use Rattle.sota_network.specs.Bests.{table_sum, bests_of, rounded, settled, chosen};
 
 use crate::choice::Choice;
 use crate::grid::{Grid, cell};
@@ -76,9 +76,11 @@ enum Rounding {
 
 /// For each node the best arc at a budget, over a table of the values at smaller budgets.
 fn find_bests(network: &Network, values: &[Grain], budget: u32, bests: &mut [Best])
+    requires valid { IsNet network.now }
+    requires scale { network.now.scale ≤ SCALE_LIMIT }
     requires full { length values.now ≡ budget * network.now.nodes }
     requires nodes { length bests.old ≡ network.now.nodes }
-    ensures bests { bests.new ≡ bests_of network.now.nodes network.now.arcs (λ arc. plain_sum arc (in_table values.now network.now.nodes) budget) }
+    ensures bests { bests.new ≡ bests_of network.now.nodes network.now.arcs (table_sum values.now network.now.nodes budget) }
     ensures within { All (λ best. best.sum ≤ network.now.scale * ONE) bests.new }
 {
     let nodes = network.nodes();
@@ -101,7 +103,7 @@ fn arc_sum(arc: &Arc, nodes: u32, values: &[Grain], budget: u32) -> Heft
     requires head { (1 ≤ arc.now.head) × (arc.now.head ≤ nodes) }
     requires scale { total arc.now.time ≤ SCALE_LIMIT }
     requires full { length values.now ≡ budget * nodes }
-    ensures value { result ≡ weighed (in_table values.now nodes arc.now.head) budget arc.now.time }
+    ensures value { result ≡ table_sum values.now nodes budget arc.now }
     ensures within { result ≤ total arc.now.time * ONE }
 {
     let mut sum = Heft::ZERO;
