@@ -5,8 +5,11 @@ use Rattle.sota_network.specs.Grid.{best_of, choice_of}
 use Rattle.sota_network.specs.Bests.{bests_of}
 use Rattle.sota_network.specs.declared.network.Arc.{Arc}
 use Rattle.sota_network.specs.declared.plain.Best.{Best}
-use Rattle.sota_network.proofs.Listed.{listed-agree, set-listed}
+use Rattle.sota_network.proofs.Listed.{length-listed, listed-agree, set-listed}
 use Rattle.sota_network.proofs.Best.{best-push_in, best-push_out, choice-push_same, choice-push_new}
+
+pub length-bests : (n : ℕ) (arcs : List Arc) (P : Arc → ℕ) → length (bests_of n arcs P) ≡ n
+length-bests n arcs P = length-listed (λ i. record { sum = best_of arcs P i; arc = choice_of arcs P i }) n
 
 module _ (P : Arc → ℕ) (n : ℕ) (xs : List Arc) (a : Arc) where
   abbrev entry : List Arc → ℕ → Best

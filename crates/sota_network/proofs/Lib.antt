@@ -8,3 +8,4 @@ pub mod Outward
 pub mod Attained
 pub mod Gap
 pub mod Tables
+pub mod Fill

@@ -28,20 +28,17 @@ pub fn plain_grid(
     ensures { IfOk result (λ grid. IsPlan grid network.now dest budget) }
 {
     let nodes = network.nodes();
-    let scale = network.scale();
     let cells = (budget as usize + 1) * nodes as usize;
     let mut lower = Vec::with_capacity(alloc, cells)?;
     let mut upper = Vec::with_capacity(alloc, cells)?;
     let mut choices = Vec::with_capacity(alloc, cells)?;
-    let mut low = vec![in alloc; Best::NONE; nodes as usize]?;
-    let mut high = vec![in alloc; Best::NONE; nodes as usize]?;
+    let mut scratch = vec![in alloc; Best::NONE; nodes as usize]?;
+    let bests = scratch.as_mut_slice();
     network.is_valid();
     for time in 0..budget + 1 {
-        find_bests(network, &lower, time, &mut low);
-        find_bests(network, &upper, time, &mut high);
-        push_values(&mut lower, &low, dest, scale, Rounding::Down)?;
-        push_values(&mut upper, &high, dest, scale, Rounding::Up)?;
-        push_choices(&mut choices, &low, dest)?;
+        push_row(network, dest, time, Rounding::Down, &mut lower, bests)?;
+        push_choices(&mut choices, bests, dest)?;
+        push_row(network, dest, time, Rounding::Up, &mut upper, bests)?;
     }
     Ok(Grid {
         nodes,
@@ -72,6 +69,27 @@ impl Best {
 enum Rounding {
     Down,
     Up,
+}
+
+/// Appends the values of all nodes at one budget to those at smaller budgets, and leaves in `bests` what they rest on.
+fn push_row(
+    network: &Network,
+    dest: NodeId,
+    budget: u32,
+    rounding: Rounding,
+    values: &mut Vec<Grain>,
+    bests: &mut [Best],
+) -> Result<(), NoMemory>
+    requires valid { IsNet network.now }
+    requires full { length values.old.items ≡ budget * network.now.nodes }
+    requires nodes { length bests.old ≡ network.now.nodes }
+    ensures bests { bests.new ≡ bests_of network.now.nodes network.now.arcs (table_sum values.old.items network.now.nodes budget) }
+    ensures values { OnOk result (values.new.items ≡ values.old.items ++ listed (settled rounding network.now.scale dest bests.new) network.now.nodes) }
+{
+    let _nodes = network.nodes();
+    let scale = network.scale();
+    find_bests(network, values, budget, bests);
+    push_values(values, bests, dest, scale, rounding)
 }
 
 /// For each node the best arc at a budget, over a table of the values at smaller budgets.

@@ -8,6 +8,5 @@ invariant-loop-time l = record {
   lower : Filled 0 l.lower.items l.network.nodes l.time (lo l.network l.dest);
   upper : Filled 0 l.upper.items l.network.nodes l.time (hi l.network l.dest);
   choices : Filled None l.choices.items l.network.nodes l.time (choice l.network l.dest);
-  low : length l.low.items ≡ l.network.nodes;
-  high : length l.high.items ≡ l.network.nodes;
+  bests : length l.bests ≡ l.network.nodes;
 }
