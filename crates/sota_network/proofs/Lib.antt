@@ -1,4 +1,5 @@
 pub mod Listed
+pub mod Grouped
 pub mod Sums
 pub mod Best
 pub mod Bests
