@@ -1,0 +1,124 @@
+-- Graph texts: the lines are tried in order, and the first fault found is the text's.
+use Rattle.std.specs.Prelude.{◌≡◌, ℕ, ◌+◌, ◌≤◌, List, [], ◌∷◌, ◌++◌, Bool, true, false, ◌==◌, ◌&&◌, nat_lt, nat_le, All, length, map, filter, Option, Some, None, Result, Ok, Err, if◌then◌else◌}
+use Rattle.std.specs.List.{filter_map}
+use Rattle.std.specs.Option.{option_or}
+use Rattle.sota_text.specs.Text.{text_lines}
+use Rattle.sota_dimacs.specs.Lines.{kind_of, problem_said, arc_said}
+use Rattle.sota_dimacs.specs.declared.graph.RawArc.{RawArc}
+use Rattle.sota_dimacs.specs.declared.graph.RawGraph.{RawGraph}
+use Rattle.sota_dimacs.specs.declared.fault.GraphFault.{GraphFault}
+use Rattle.sota_dimacs.specs.declared.fault.GraphFault.TheVariants.{NoProblem, SecondProblem, BadLine, NodeRange, ArcBeforeProblem, TooManyArcs, TooFewArcs, TooManyNodes, ArcLimit}
+use Rattle.sota_dimacs.specs.declared.line.Problem.{Problem}
+use Rattle.sota_dimacs.specs.declared.line.LineKind.{LineKind}
+use Rattle.sota_dimacs.specs.declared.line.LineKind.TheVariants.{Skipped, ProblemLine, ArcLine, Unknown}
+
+abbrev pub MAX_NODES : ℕ
+MAX_NODES = 1000000
+
+abbrev pub MAX_ARCS : ℕ
+MAX_ARCS = 4000000
+
+-- nodes are numbered from 1
+abbrev pub is_node : ℕ → ℕ → Bool
+is_node nodes node = nat_lt 0 node && nat_le node nodes
+
+-- ---- what several lines say
+
+-- their problem: that of the first problem line
+abbrev pub problem_in : List LineKind → Option Problem
+problem_in [] = None
+problem_in (line ∷ lines) = option_or (problem_said line) (problem_in lines)
+
+-- their arcs: arc e is that of the e-th arc line
+abbrev pub arcs_in : List LineKind → List RawArc
+arcs_in lines = filter_map arc_said lines
+
+-- ---- faults
+
+-- a graph has a node
+abbrev pub size_fault : ℕ → Problem → Option GraphFault
+size_fault number problem =
+    if problem.nodes == 0 then Some (BadLine number)
+    else (if nat_lt MAX_NODES problem.nodes then Some (TooManyNodes problem.nodes)
+    else (if nat_lt MAX_ARCS problem.arcs then Some (ArcLimit problem.arcs) else None))
+
+abbrev pub arc_fault : Problem → ℕ → ℕ → RawArc → Option GraphFault
+arc_fault problem found number arc =
+    if is_node problem.nodes arc.tail && is_node problem.nodes arc.head
+    then (if nat_lt found problem.arcs then None else Some (TooManyArcs number))
+    else Some (NodeRange number)
+
+abbrev pub problem_line_fault : Option Problem → ℕ → Option Problem → Option GraphFault
+problem_line_fault (Some before) number problem = Some (SecondProblem number)
+problem_line_fault None number (Some problem) = size_fault number problem
+problem_line_fault None number None = Some (BadLine number)
+
+abbrev pub arc_line_fault : Option Problem → ℕ → ℕ → Option RawArc → Option GraphFault
+arc_line_fault None found number arc = Some (ArcBeforeProblem number)
+arc_line_fault (Some problem) found number (Some arc) = arc_fault problem found number arc
+arc_line_fault (Some problem) found number None = Some (BadLine number)
+
+-- the fault of the line of this number, where the lines before it tell this problem and so many arcs
+abbrev pub line_fault : Option Problem → ℕ → ℕ → LineKind → Option GraphFault
+line_fault problem found number Skipped = None
+line_fault problem found number (ProblemLine line) = problem_line_fault problem number line
+line_fault problem found number (ArcLine line) = arc_line_fault problem found number line
+line_fault problem found number Unknown = Some (BadLine number)
+
+-- the fault of the first line that has one, of lines that stand behind others; lines are counted from 1
+abbrev pub first_fault : List LineKind → List LineKind → Option GraphFault
+first_fault before [] = None
+first_fault before (line ∷ lines) =
+    option_or (line_fault (problem_in before) (length (arcs_in before)) (length before + 1) line) (first_fault (before ++ line ∷ []) lines)
+
+-- ---- the whole text
+
+-- the graph of a problem and arcs without a fault of a line, or the fault of the whole
+abbrev pub graph_of : Option Problem → List RawArc → Result RawGraph GraphFault
+graph_of None arcs = Err NoProblem
+graph_of (Some problem) arcs =
+    if nat_lt (length arcs) problem.arcs then Err (TooFewArcs (length arcs))
+    else Ok (record { nodes = problem.nodes; arcs = arcs })
+
+-- a line's fault comes before those of the whole
+abbrev pub fault_or : Option GraphFault → Result RawGraph GraphFault → Result RawGraph GraphFault
+fault_or (Some fault) graph = Err fault
+fault_or None graph = graph
+
+abbrev pub graph_of_lines : List LineKind → Result RawGraph GraphFault
+graph_of_lines lines = fault_or (first_fault [] lines) (graph_of (problem_in lines) (arcs_in lines))
+
+abbrev pub text_kinds : List ℕ → List LineKind
+text_kinds bytes = map kind_of (text_lines bytes)
+
+-- the graph of a text, or its fault
+abbrev pub graph_text : List ℕ → Result RawGraph GraphFault
+graph_text bytes = graph_of_lines (text_kinds bytes)
+
+-- ---- graphs
+
+abbrev pub IsNode : ℕ → ℕ → Type 0
+IsNode nodes node = (1 ≤ node) × (node ≤ nodes)
+
+-- a graph within the limits: 1 to 1,000,000 nodes, at most 4,000,000 arcs, and all ends are nodes
+pub record IsGraph (graph : RawGraph) : Type 0 where
+  pub some : 1 ≤ graph.nodes
+  pub few_nodes : graph.nodes ≤ MAX_NODES
+  pub few_arcs : length graph.arcs ≤ MAX_ARCS
+  pub tails : All (λ arc. IsNode graph.nodes arc.tail) graph.arcs
+  pub heads : All (λ arc. IsNode graph.nodes arc.head) graph.arcs
+
+-- neither blank nor a comment
+abbrev pub is_said : LineKind → Bool
+is_said Skipped = false
+is_said _ = true
+
+-- a problem line, and then a line for each arc
+abbrev pub graph_lines : RawGraph → List LineKind
+graph_lines graph = ProblemLine (Some (record { nodes = graph.nodes; arcs = length graph.arcs })) ∷ map (λ arc. ArcLine (Some arc)) graph.arcs
+
+-- without its blank lines and comments, the text of a graph within the limits is its lines; this says again which texts are accepted,
+-- without faults and their order
+pub record IsTextOf (bytes : List ℕ) (graph : RawGraph) : Type 0 where
+  pub lines : filter is_said (text_kinds bytes) ≡ graph_lines graph
+  pub limits : IsGraph graph

@@ -1,0 +1,11 @@
+//! Graph texts in the DIMACS shortest-path format.
+#![tactic(auto)]
+
+mod fault;
+mod graph;
+mod line;
+mod reader;
+
+pub use fault::GraphFault;
+pub use graph::{RawArc, RawArcs, RawGraph};
+pub use reader::read_graph;

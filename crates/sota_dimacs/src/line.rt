@@ -1,0 +1,103 @@
+// What a line says by itself.
+ghost use Rattle.std.specs.Prelude.{◌≡◌, map, option_map};
+ghost use Rattle.sota_text.specs.Text.{fields_of};
+ghost use Rattle.sota_text.specs.Spans.{bytes_of, AreWithin};
+ghost use Rattle.sota_dimacs.specs.Lines.{begins_comment, three, problem_of, arc_of, kind_of};
+
+use crate::RawArc;
+use sota_text::{Fields, read_u32};
+use sota_units::NodeId;
+
+/// What a problem line tells.
+#[derive(Clone, Copy, Debug, PartialEq, Eq)]
+pub(crate) struct Problem {
+    pub(crate) nodes: u32,
+    pub(crate) arcs: u32,
+}
+
+/// What a line says by itself.
+#[derive(Clone, Copy, Debug, PartialEq, Eq)]
+pub(crate) enum LineKind {
+    /// A blank line or a comment.
+    Skipped,
+    /// A problem line, which says nothing where its fields are not those of one.
+    ProblemLine(Option<Problem>),
+    /// An arc line, which says nothing where its fields are not those of one.
+    ArcLine(Option<RawArc>),
+    /// A line of no kind.
+    Unknown,
+}
+
+/// Reads a line.
+pub(crate) fn read_line(line: &[u8]) -> LineKind
+    ensures { result ≡ kind_of line.now }
+{
+    let mut fields = Fields::new(line);
+    let Some(first) = fields.next() else {
+        return LineKind::Skipped;
+    };
+    let first = &line[first.from..first.to];
+    if begins_comment(first) {
+        LineKind::Skipped
+    } else if first == b"p".as_slice() {
+        LineKind::ProblemLine(read_problem(line, fields))
+    } else if first == b"a".as_slice() {
+        LineKind::ArcLine(read_arc(line, fields))
+    } else {
+        LineKind::Unknown
+    }
+}
+
+/// A comment is a line whose first field begins with `c`.
+fn begins_comment(first: &[u8]) -> bool
+    ensures { result ≡ begins_comment first.now }
+{
+    !first.is_empty() && first[0] == b'c'
+}
+
+/// The fields that are left, if they are three.
+fn three_fields<'a>(
+    line: &'a [u8],
+    mut fields: Fields<'_>,
+) -> Option<(&'a [u8], &'a [u8], &'a [u8])>
+    requires { AreWithin line.now fields }
+    ensures { option_map (λ words. (words.0.now, words.1.now, words.2.now)) result ≡ three (map (bytes_of line.now) fields.entry) }
+{
+    let first = fields.next()?;
+    let second = fields.next()?;
+    let third = fields.next()?;
+    if fields.next().is_some() {
+        return None;
+    }
+    Some((
+        &line[first.from..first.to],
+        &line[second.from..second.to],
+        &line[third.from..third.to],
+    ))
+}
+
+/// The problem that the fields behind a `p` tell.
+fn read_problem(line: &[u8], fields: Fields<'_>) -> Option<Problem>
+    requires { AreWithin line.now fields }
+    ensures { result ≡ problem_of (map (bytes_of line.now) fields.entry) }
+{
+    let (profile, nodes, arcs) = three_fields(line, fields)?;
+    let nodes = read_u32(nodes)?;
+    let arcs = read_u32(arcs)?;
+    if profile != b"sp".as_slice() {
+        return None;
+    }
+    Some(Problem { nodes, arcs })
+}
+
+/// The arc that the fields behind an `a` tell.
+fn read_arc(line: &[u8], fields: Fields<'_>) -> Option<RawArc>
+    requires { AreWithin line.now fields }
+    ensures { result ≡ arc_of (map (bytes_of line.now) fields.entry) }
+{
+    let (tail, head, weight) = three_fields(line, fields)?;
+    let tail = NodeId(read_u32(tail)?);
+    let head = NodeId(read_u32(head)?);
+    let weight = read_u32(weight)?;
+    Some(RawArc { tail, head, weight })
+}

@@ -1,0 +1,5 @@
+pub mod Digits
+pub mod LineEnds
+pub mod Parts
+pub mod Places
+pub mod Texts

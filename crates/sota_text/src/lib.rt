@@ -1,0 +1,14 @@
+//! Texts of bytes: lines, fields and numbers by their places, and text that is written piece by piece.
+#![tactic(auto)]
+
+mod fields;
+mod lines;
+mod number;
+mod span;
+mod text_out;
+
+pub use fields::Fields;
+pub use lines::Lines;
+pub use number::read_u32;
+pub use span::{Line, Span};
+pub use text_out::TextOut;
