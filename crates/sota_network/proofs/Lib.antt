@@ -1,0 +1,12 @@
+pub mod Listed
+pub mod Grouped
+pub mod Sums
+pub mod Best
+pub mod Bests
+pub mod Budget
+pub mod Recursion
+pub mod Outward
+pub mod Attained
+pub mod Gap
+pub mod Tables
+pub mod Fill

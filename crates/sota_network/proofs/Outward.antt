@@ -1,0 +1,130 @@
+-- No tree scores more than the upper value.
+use Rattle.std.proofs.Common.{ℕ, zero, suc, ◌≡◌, ◌+◌, ◌-◌, ◌*◌, ◌^◌, ◌/◌, ◌%◌, zero-add, ◌<◌, ◌≤◌, List, [], ◌∷◌, Some, refl, ◌∙◌, ap, arith, ⊎_elim}
+use Rattle.std.proofs.lemmas.Bool.{eq-eqb, ne_eqb, cases_eq, cases_lt, le-leb, lt-leb}
+use Rattle.std.proofs.lemmas.Nat.{pow-add}
+use Rattle.std.proofs.Math.Nat.{mul-le-mul_left, mul-le-mul_right, div-add-mod, mod-lt, pow-suc}
+use Rattle.sota_hist.specs.Time.{RisesFrom}
+use Rattle.sota_network.specs.Network.{Net, IsNet, IsArc, arc_at}
+use Rattle.sota_network.specs.Grid.{weighed, plain_sum, best_sum, lo, hi}
+use Rattle.sota_network.specs.Trees.{Tree, Trees, stop, go, no_trees, tree_then, children, Fits, AllFit, score, scores}
+use Rattle.sota_network.specs.declared.network.Arc.{Arc}
+use Rattle.sota_units.specs.Rounding.{ONE, floor_by, ceiling_by}
+use Rattle.sota_network.proofs.Sums.{weighed-in, weighed-out}
+use Rattle.sota_network.proofs.Best.{best-has_number}
+use Rattle.sota_network.proofs.Recursion.{arc-valid, lo-is, hi-is}
+
+-- a power of the scale, parted at one pair
+pub power-parts : (q s t : ℕ) → 1 ≤ s → s ≤ t → q ^ t ≡ q ^ (s - 1) * q * q ^ (t - s)
+power-parts q zero t h k = absurd (omega arith)
+power-parts q (suc a) t h k =
+    let split : t ≡ suc a + (t - suc a) = omega arith in
+    let power : q ^ t ≡ q ^ (suc a) * q ^ (t - suc a) = ap (λ (n : ℕ). q ^ n) split ∙ pow-add q (suc a) (t - suc a) in
+    let first : q ^ (suc a) ≡ q ^ (suc a - 1) * q = pow-suc q a ∙ ap (λ (n : ℕ). q ^ n * q) (let x : a ≡ suc a - 1 = omega arith in x) in
+    power ∙ ap (λ (n : ℕ). n * q ^ (t - suc a)) first
+
+-- one pair more, outward from above; A is q ^ (s - 1) and B is q ^ (t - s)
+pub step-up : (w m q A B T sc h W rest : ℕ) → T ≡ A * q * B → w * sc ≤ h * B → w * rest * q ≤ W * T → w * (m * A * sc + rest) * q ≤ (m * h + W) * T
+step-up w m q A B T sc h W rest e here more =
+    let times : (m * A * q) * (w * sc) ≤ (m * A * q) * (h * B) = mul-le-mul_left (m * A * q) here in
+    let T-is : m * h * T ≡ (m * A * q) * (h * B) = rw e (omega arith) in
+    omega arith
+
+-- the ceiling is outward
+pub ceiling-up : (q x : ℕ) → 1 ≤ q → x ≤ ceiling_by q x * q
+ceiling-up q x h =
+    let whole : q * ((x + (q - 1)) / q) + (x + (q - 1)) % q ≡ x + (q - 1) = div-add-mod (x + (q - 1)) q in
+    let rest : (x + (q - 1)) % q < q = mod-lt (x + (q - 1)) (let y : 0 < q = omega arith in y) in
+    omega arith
+
+-- a positive factor may go
+pub cancel : (q a b : ℕ) → 1 ≤ q → a * q ≤ b * q → a ≤ b
+cancel q a b h k =
+    ⊎_elim
+    (λ more.
+    let over : (b + 1) * q ≤ a * q = mul-le-mul_right q (let y : b + 1 ≤ a = omega arith in y) in
+    absurd (omega arith))
+    (λ fine. fine)
+    (cases_lt b a)
+
+pub score-at_dest : (net : Net) (dest i t : ℕ) (tree : Tree) → i ≡ dest → score net dest i t tree ≡ net.scale ^ t
+unfolding score
+score-at_dest net dest i t stop h = rw (eq-eqb i dest h) refl
+score-at_dest net dest i t (go e children) h = rw (eq-eqb i dest h) refl
+
+pub score-stop : (net : Net) (dest i t : ℕ) → (i ≡ dest → ⊥) → score net dest i t stop ≡ 0
+unfolding score
+score-stop net dest i t h = rw (ne_eqb i dest h) refl
+
+pub score-go : (net : Net) (dest i t e : ℕ) (a : Arc) (trees : Trees) → (i ≡ dest → ⊥) → arc_at net e ≡ Some a → score net dest i t (go e trees) ≡ scores net dest a.head t a.time trees
+unfolding score
+score-go net dest i t e a trees h is = rw (ne_eqb i dest h, is) refl
+
+pub scores-in : (net : Net) (dest j t : ℕ) (p : ℕ × ℕ) (ps : List (ℕ × ℕ)) (child : Tree) (rest : Trees) → p.0 ≤ t
+    → scores net dest j t (p ∷ ps) (tree_then child rest) ≡ p.1 * net.scale ^ (p.0 - 1) * score net dest j (t - p.0) child + scores net dest j t ps rest
+unfolding score
+scores-in net dest j t p ps child rest h = rw (le-leb p.0 t h) refl
+
+pub scores-out : (net : Net) (dest j t : ℕ) (p : ℕ × ℕ) (ps : List (ℕ × ℕ)) (child : Tree) (rest : Trees) → t < p.0
+    → scores net dest j t (p ∷ ps) (tree_then child rest) ≡ scores net dest j t ps rest
+unfolding score
+scores-out net dest j t p ps child rest h = rw (lt-leb p.0 t h) (zero-add _)
+
+pub hi-at_dest : (net : Net) → IsNet net → (dest i t : ℕ) → i ≡ dest → hi net dest i t ≡ ONE
+hi-at_dest net valid dest i t h = hi-is net dest valid i t ∙ (rw (eq-eqb i dest h) refl)
+
+pub hi-elsewhere : (net : Net) → IsNet net → (dest i t : ℕ) → (i ≡ dest → ⊥) → hi net dest i t ≡ ceiling_by net.scale (best_sum net (hi net dest) i t)
+hi-elsewhere net valid dest i t h = hi-is net dest valid i t ∙ (rw (ne_eqb i dest h) refl)
+
+pub lo-at_dest : (net : Net) → IsNet net → (dest i t : ℕ) → i ≡ dest → lo net dest i t ≡ ONE
+lo-at_dest net valid dest i t h = lo-is net dest valid i t ∙ (rw (eq-eqb i dest h) refl)
+
+pub lo-elsewhere : (net : Net) → IsNet net → (dest i t : ℕ) → (i ≡ dest → ⊥) → lo net dest i t ≡ floor_by net.scale (best_sum net (lo net dest) i t)
+lo-elsewhere net valid dest i t h = lo-is net dest valid i t ∙ (rw (ne_eqb i dest h) refl)
+
+pub scores-end : (net : Net) (dest j t : ℕ) (trees : Trees) → scores net dest j t [] trees ≡ 0
+unfolding score
+scores-end net dest j t no_trees = refl
+scores-end net dest j t (tree_then child rest) = refl
+
+-- from the sum over the pairs to the value of the node
+pub close-up : (w q s C b h T : ℕ) → 1 ≤ q → w * s * q ≤ C * T → C ≤ b → b ≤ h * q → w * s ≤ h * T
+close-up w q s C b h T pos sum le up =
+    let one : C * T ≤ (h * q) * T = mul-le-mul_right T (let y : C ≤ h * q = omega arith in y) in
+    cancel q (w * s) (h * T) pos (omega arith)
+
+module _ (net : Net) (valid : IsNet net) (dest : ℕ) where
+  mutual
+    -- every tree scores at most the upper value
+    pub upper : (tree : Tree) (i t : ℕ) → Fits net i tree → ONE * score net dest i t tree ≤ hi net dest i t * net.scale ^ t
+    upper stop i t fits =
+        ⊎_elim
+        (λ at. rw (score-at_dest net dest i t stop at, hi-at_dest net valid dest i t at) (omega arith))
+        (λ off. rw (score-stop net dest i t off) (omega arith))
+        (cases_eq i dest)
+    upper (go e trees) i t fits =
+        ⊎_elim
+        (λ at. rw (score-at_dest net dest i t (go e trees) at, hi-at_dest net valid dest i t at) (omega arith))
+        (λ off.
+        let a : Arc = fits.0 in
+        let is : IsArc net a = arc-valid net valid e a fits.1 in
+        let sum : ONE * scores net dest a.head t a.time trees * net.scale ≤ weighed (hi net dest a.head) t a.time * net.scale ^ t = uppers trees a.time a.head t 0 fits.3 is.time in
+        let has : plain_sum a (hi net dest) t ≤ best_sum net (hi net dest) i t = best-has_number net (λ b. plain_sum b (hi net dest) t) i e a fits.1 fits.2 in
+        rw (score-go net dest i t e a trees off fits.1, hi-elsewhere net valid dest i t off)
+        (close-up ONE net.scale (scores net dest a.head t a.time trees) (plain_sum a (hi net dest) t) (best_sum net (hi net dest) i t) _ (net.scale ^ t) valid.scale sum has (ceiling-up net.scale _ valid.scale)))
+        (cases_eq i dest)
+
+    pub uppers : (trees : Trees) (ps : List (ℕ × ℕ)) (j t floor : ℕ) → AllFit net j ps trees → RisesFrom floor ps
+        → ONE * scores net dest j t ps trees * net.scale ≤ weighed (hi net dest j) t ps * net.scale ^ t
+    uppers no_trees [] j t floor fits r = rw scores-end (omega arith)
+    uppers no_trees (p ∷ ps) j t floor fits r = absurd fits
+    uppers (tree_then child rest) [] j t floor fits r = absurd fits
+    uppers (tree_then child rest) (p ∷ ps) j t floor fits r =
+        let more : ONE * scores net dest j t ps rest * net.scale ≤ weighed (hi net dest j) t ps * net.scale ^ t = uppers rest ps j t p.0 fits.1 r.2 in
+        ⊎_elim
+        (λ out. rw (scores-out net dest j t p ps child rest out, weighed-out (hi net dest j) t p ps out) more)
+        (λ inside.
+        let here : ONE * score net dest j (t - p.0) child ≤ hi net dest j (t - p.0) * net.scale ^ (t - p.0) = upper child j (t - p.0) fits.0 in
+        let parts : net.scale ^ t ≡ net.scale ^ (p.0 - 1) * net.scale * net.scale ^ (t - p.0) = power-parts net.scale p.0 t (let y : 1 ≤ p.0 = omega arith in y) inside in
+        rw (scores-in net dest j t p ps child rest inside, weighed-in (hi net dest j) t p ps inside)
+        (step-up ONE p.1 net.scale _ _ _ _ _ _ _ parts here more))
+        (cases_lt t p.0)

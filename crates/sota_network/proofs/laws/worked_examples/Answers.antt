@@ -1,0 +1,19 @@
+-- each example is what its definition computes to
+use Rattle.std.proofs.Common.{refl}
+use Rattle.sota_network.specs.Grid.{by_budget, lo, hi, choice}
+use Rattle.sota_network.specs.Trees.{score, follow}
+use Rattle.sota_network.proofs.laws.worked_examples.Goals as goal
+
+pub returns : goal.returns
+unfolding by_budget lo hi choice follow score
+returns c = record {
+  triangle_too_late = (refl, refl, refl);
+  triangle_at_two = (refl, refl, refl);
+  triangle_at_three = (refl, refl, refl);
+  triangle_at_four = (refl, refl, refl);
+  chain_rounds = (refl, refl);
+  chain_exact = (refl, refl);
+  fork_policy = (refl, refl);
+  fork_routes = (refl, refl);
+  twins_first = refl;
+}

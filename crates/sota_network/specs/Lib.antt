@@ -1,0 +1,9 @@
+pub mod Network
+pub mod Numbers
+pub mod Grid
+pub mod Trees
+pub mod Sound
+pub mod Plan
+pub mod Bests
+pub mod Adjacency
+pub mod Examples

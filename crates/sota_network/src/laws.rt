@@ -1,0 +1,46 @@
+// What is true of the definitions themselves. The functions do nothing: their contracts are the theorems.
+ghost use Rattle.std.specs.Prelude.{ℕ, ◌≡◌, ◌+◌, ◌*◌, ◌^◌, ◌≤◌, Option, Some, None};
+ghost use Rattle.sota_units.specs.Rounding.{ONE, floor_by, ceiling_by};
+ghost use Rattle.sota_network.specs.Network.{Net, IsNet};
+ghost use Rattle.sota_network.specs.Grid.{lo, hi, choice, value_from};
+ghost use Rattle.sota_network.specs.Trees.{Encloses, Fits, follow, follow_step, score};
+ghost use Rattle.sota_network.specs.Sound.{Sound};
+ghost use Rattle.sota_network.specs.Examples.{triangle, chain, chain_tree, fork, late_route, certain_route, twins};
+
+/// The values of the grid, and the tree of a rule, are what their recursion makes of those at smaller budgets.
+pub fn grid_recurs()
+    ensures lower { (net : Net) (dest i t : ℕ) → IsNet net → lo net dest i t ≡ value_from floor_by net dest (lo net dest) i t }
+    ensures upper { (net : Net) (dest i t : ℕ) → IsNet net → hi net dest i t ≡ value_from ceiling_by net dest (hi net dest) i t }
+    ensures tree { (net : Net) (rule : ℕ → ℕ → Option ℕ) (dest i t : ℕ) → IsNet net → follow net rule dest i t ≡ follow_step net rule dest (follow net rule dest) i t }
+{}
+
+/// The two values of the grid enclose the greatest on-time probability of all decision trees, the tree of the choices
+/// attains the lower one, and the two differ by at most two units a tick. A rule attains all values that it keeps up.
+pub fn grid_encloses()
+    ensures encloses { (net : Net) (dest i t : ℕ) → IsNet net → Encloses net dest i t (lo net dest i t) (hi net dest i t) }
+    ensures fits { (net : Net) (rule : ℕ → ℕ → Option ℕ) (dest i t : ℕ) → IsNet net → Fits net i (follow net rule dest i t) }
+    ensures attains { (net : Net) (dest i t : ℕ) → IsNet net → lo net dest i t * net.scale ^ t ≤ ONE * score net dest i t (follow net (choice net dest) dest i t) }
+    ensures sound { (net : Net) (dest : ℕ) (values : ℕ → ℕ → ℕ) (rule : ℕ → ℕ → Option ℕ) → IsNet net → Sound net dest values rule → (i t : ℕ) → values i t * net.scale ^ t ≤ ONE * score net dest i t (follow net rule dest i t) }
+    ensures order { (net : Net) (dest i t : ℕ) → IsNet net → lo net dest i t ≤ hi net dest i t }
+    ensures gap { (net : Net) (dest i t : ℕ) → IsNet net → hi net dest i t ≤ lo net dest i t + 2 * t }
+    ensures whole { (net : Net) (dest i t : ℕ) → IsNet net → hi net dest i t ≤ ONE }
+{}
+
+/// The definitions, computed on small networks.
+pub fn worked_examples()
+    ensures triangle_too_late { (lo triangle 3 1 1 ≡ 0) × (hi triangle 3 1 1 ≡ 0) × (choice triangle 3 1 1 ≡ None) }
+    ensures triangle_at_two { (lo triangle 3 1 2 ≡ 500000000000000000) × (hi triangle 3 1 2 ≡ 500000000000000000) × (choice triangle 3 1 2 ≡ Some 1) }
+    ensures triangle_at_three { (lo triangle 3 1 3 ≡ 750000000000000000) × (hi triangle 3 1 3 ≡ 750000000000000000) × (choice triangle 3 1 3 ≡ Some 3) }
+    ensures triangle_at_four { (lo triangle 3 1 4 ≡ ONE) × (hi triangle 3 1 4 ≡ ONE) × (choice triangle 3 1 4 ≡ Some 1) }
+
+    // The exact probability is 1/9, between the two values.
+    ensures chain_rounds { (lo chain 3 1 2 ≡ 111111111111111111) × (hi chain 3 1 2 ≡ 111111111111111112) }
+    ensures chain_exact { (score chain 3 1 2 chain_tree ≡ 1) × (chain.scale ^ 2 ≡ 9) }
+
+    // Who looks at the time of the first road gains 3/4, and each fixed route 1/2.
+    ensures fork_policy { (score fork 3 1 3 (follow fork (choice fork 3) 3 1 3) ≡ 6) × (fork.scale ^ 3 ≡ 8) }
+    ensures fork_routes { (score fork 3 1 3 late_route ≡ 4) × (score fork 3 1 3 certain_route ≡ 4) }
+
+    // Of equals the first arc is chosen.
+    ensures twins_first { choice twins 2 1 5 ≡ Some 1 }
+{}

@@ -1,0 +1,13 @@
+//! Road networks with random travel times, what a decision tree on them is worth, and the plain planner of the grid.
+#![tactic(auto)]
+
+mod adjacency;
+mod choice;
+mod grid;
+pub mod laws;
+mod network;
+mod plain;
+
+pub use grid::Grid;
+pub use network::{Arc, Network};
+pub use plain::plain_grid;

@@ -1,0 +1,168 @@
+// Networks and their views.
+ghost use Rattle.std.specs.Prelude.{ℕ, ◌≡◌, ◌≤◌, ◌==◌, ◌↔◌, List, length, map, IfOk, IsSome, Option};
+ghost use Rattle.std.specs.List.{All};
+ghost use Rattle.std.specs.Option.{option_copied};
+ghost use Rattle.sota_units.specs.Rounding.{SCALE_LIMIT};
+ghost use Rattle.sota_hist.specs.Time.{IsTime, total};
+ghost use Rattle.sota_network.specs.Network.{Net, IsNet, IsNode, arc_at, NODE_LIMIT, ARC_LIMIT};
+ghost use Rattle.sota_network.specs.Numbers.{numbers};
+
+use crate::adjacency::Adjacency;
+use sota_hist::Histogram;
+use sota_units::{ArcId, NoMemory, NodeId, Scale};
+use std::alloc::Global;
+use std::marker::Model;
+
+/// A one-way road from its tail to its head. A mass of its time is a chance over the network's scale.
+#[derive(Drop)]
+pub struct Arc {
+    pub tail: NodeId,
+    pub head: NodeId,
+    pub time: Histogram,
+}
+
+/// A road network. Nodes are numbered from 1, and arcs from 1 in the order in which they were handed in.
+#[derive(Drop)]
+pub struct Network {
+    nodes: u32,
+    scale: Scale,
+    arcs: Vec<Arc>,
+    leaving: Adjacency,
+    entering: Adjacency,
+}
+
+impl Model for Network {
+    ghost use Rattle.std.specs.Prelude.{ℕ, ◌≡◌, ◌≤◌, length, map};
+    ghost use Rattle.sota_units.specs.Rounding.{SCALE_LIMIT};
+    ghost use Rattle.sota_network.specs.Network.{Net, IsNet, NODE_LIMIT, ARC_LIMIT};
+    ghost use Rattle.sota_network.specs.Adjacency.{grouped};
+
+    ghost Value = { Net };
+
+    ghost view = { λ a. record { nodes = a.nodes; scale = a.scale; arcs = a.arcs.items } };
+
+    ghost invariant = { λ a.
+        IsNet (record { nodes = a.nodes; scale = a.scale; arcs = a.arcs.items })
+        × ((1 ≤ a.nodes) × (a.nodes ≤ NODE_LIMIT))
+        × (a.scale ≤ SCALE_LIMIT)
+        × (length a.arcs.items ≤ ARC_LIMIT)
+        × (a.leaving ≡ grouped a.nodes (map (λ arc. arc.tail) a.arcs.items))
+        × (a.entering ≡ grouped a.nodes (map (λ arc. arc.head) a.arcs.items)) };
+}
+
+impl Network {
+    /// The network of its parts: nodes from 1 to 1,000,000, at most 4,000,000 arcs between them, and each arc's masses sum
+    /// to the scale. It takes time linear in nodes and arcs.
+    pub fn build(
+        alloc: Global,
+        nodes: u32,
+        scale: Scale,
+        arcs: Vec<Arc>,
+    ) -> Result<Network, NoMemory>
+        requires nodes { (1 ≤ nodes) × (nodes ≤ NODE_LIMIT) }
+        requires arcs { length arcs.items ≤ ARC_LIMIT }
+        requires tails { All (λ arc. (1 ≤ arc.tail) × (arc.tail ≤ nodes)) arcs.items }
+        requires heads { All (λ arc. (1 ≤ arc.head) × (arc.head ≤ nodes)) arcs.items }
+        requires totals { All (λ arc. total arc.time ≡ scale) arcs.items }
+        ensures { IfOk result (λ network. network ≡ record { nodes = nodes; scale = scale; arcs = arcs.items }) }
+    {
+        let leaving = Adjacency::build(alloc, nodes, &tails(alloc, &arcs)?)?;
+        let entering = Adjacency::build(alloc, nodes, &heads(alloc, &arcs)?)?;
+        see_times(&arcs);
+        let _limit = scale.get();
+        Ok(Network {
+            nodes,
+            scale,
+            arcs,
+            leaving,
+            entering,
+        })
+    }
+
+    /// The number of nodes.
+    pub fn nodes(&self) -> u32
+        ensures value { result ≡ self.now.nodes }
+        ensures within { (1 ≤ self.now.nodes) × (self.now.nodes ≤ NODE_LIMIT) }
+    {
+        self.nodes
+    }
+
+    /// The number of arcs.
+    pub fn arc_count(&self) -> u32
+        ensures value { result ≡ length self.now.arcs }
+        ensures within { length self.now.arcs ≤ ARC_LIMIT }
+    {
+        self.arcs.len() as u32
+    }
+
+    /// The denominator of all masses.
+    pub fn scale(&self) -> Scale
+        ensures value { result ≡ self.now.scale }
+        ensures within { (1 ≤ self.now.scale) × (self.now.scale ≤ SCALE_LIMIT) }
+    {
+        self.scale
+    }
+
+    /// The arc of a number. None exactly where the number is not from 1 to the number of arcs.
+    pub fn arc(&self, arc: ArcId) -> Option<&Arc>
+        ensures some { IsSome result ↔ ((1 ≤ arc) × (arc ≤ length self.now.arcs)) }
+        ensures value { option_copied result ≡ arc_at self.now arc }
+    {
+        let index = arc.get().checked_sub(1)?;
+        self.arcs.get(index as usize)
+    }
+
+    /// All arcs: number `e` stands at index `e - 1`.
+    pub fn arcs(&self) -> &[Arc]
+        ensures value { result.now ≡ self.now.arcs }
+        ensures within { length result.now ≤ ARC_LIMIT }
+    {
+        self.arcs.as_slice()
+    }
+
+    /// The numbers of the arcs that leave a node, rising.
+    pub fn leaving(&self, node: NodeId) -> &[ArcId]
+        requires { IsNode self.now node }
+        ensures { result.now ≡ numbers (λ arc. arc.tail == node) 1 self.now.arcs }
+    {
+        self.leaving.of_node(node)
+    }
+
+    /// The numbers of the arcs that enter a node, rising.
+    pub fn entering(&self, node: NodeId) -> &[ArcId]
+        requires { IsNode self.now node }
+        ensures { result.now ≡ numbers (λ arc. arc.head == node) 1 self.now.arcs }
+    {
+        self.entering.of_node(node)
+    }
+
+    /// What is true of every network.
+    pub fn is_valid(&self)
+        ensures { IsNet self.now }
+    {
+        let _arcs = &self.arcs;
+    }
+}
+
+/// The tails of arcs, in order.
+fn tails(alloc: Global, arcs: &[Arc]) -> Result<Vec<NodeId>, NoMemory>
+    ensures { IfOk result (λ ends. ends.items ≡ map (λ arc. arc.tail) arcs.now) }
+{
+    Ok(arcs.iter().map(|arc| arc.tail).collect(alloc)?)
+}
+
+/// The heads of arcs, in order.
+fn heads(alloc: Global, arcs: &[Arc]) -> Result<Vec<NodeId>, NoMemory>
+    ensures { IfOk result (λ ends. ends.items ≡ map (λ arc. arc.head) arcs.now) }
+{
+    Ok(arcs.iter().map(|arc| arc.head).collect(alloc)?)
+}
+
+/// The times of arcs rise, as every histogram's do.
+fn see_times(arcs: &[Arc])
+    ensures { All (λ arc. IsTime arc.time) arcs.now }
+{
+    for arc in arcs {
+        let _pairs = arc.time.pairs();
+    }
+}
