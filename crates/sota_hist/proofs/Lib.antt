@@ -1,0 +1,4 @@
+pub mod Least
+pub mod Ticks
+pub mod Parting
+pub mod Picking

@@ -1,0 +1,58 @@
+-- The first tick whose cumulated mass exceeds a draw, and the least tick that stands twice.
+use Rattle.std.proofs.Common.{ℕ, zero, suc, ◌≡◌, ◌+◌, ◌<◌, ◌≤◌, Bool, true, false, cond, List, [], ◌∷◌, Option, None, Some, IfSome, IsNone, ◌↔◌, refl, sym, ◌∙◌, ap, subst, arith, inl, inr, ◌⊎◌, ⊎_elim, nat_eq, nat_lt}
+use Rattle.std.specs.List.{filter, count_by}
+use Rattle.std.proofs.lemmas.Bool.{cases_lt, cases_eq, cases_order, eq-eqb, ne_eqb, lt-ltb, le-ltb, ltb-true}
+use Rattle.sota_hist.specs.Time.{RisesFrom, IsTime, ticks, total, within, picked}
+use Rattle.sota_hist.proofs.Least.{Among, LeastSuch, Passes, least_same, least_of_is}
+use Rattle.sota_hist.proofs.Ticks.{total-cons, within-in, within_none, among_above}
+
+-- the first tick whose cumulated mass exceeds the draw, where so much mass stands before the list
+abbrev pub pick_from : ℕ → ℕ → List (ℕ × ℕ) → Option ℕ
+pick_from draw sum [] = None
+pick_from draw sum (p ∷ ps) = cond (nat_lt draw (sum + p.1)) (Some p.0) (pick_from draw (sum + p.1) ps)
+
+abbrev Exceeds : ℕ → ℕ → List (ℕ × ℕ) → ℕ → Type 0
+Exceeds draw sum ps t = (draw < sum + total (within t ps)) × Among t (ticks ps)
+
+pick_least : (draw sum floor : ℕ) (ps : List (ℕ × ℕ)) → RisesFrom floor ps → sum ≤ draw → LeastSuch (Exceeds draw sum ps) (pick_from draw sum ps)
+pick_least draw sum floor [] r low = λ t e. e.1
+pick_least draw sum floor (p ∷ ps) r low =
+    let at : within p.0 (p ∷ ps) ≡ p ∷ [] = within-in p.0 p ps (omega arith) ∙ ap (λ (qs : List (ℕ × ℕ)). p ∷ qs) (within_none p.0 p.0 ps r.2 (omega arith)) in
+    let here : total (within p.0 (p ∷ ps)) ≡ p.1 = ap total at ∙ total-cons p [] ∙ (omega arith) in
+    ⊎_elim
+    (λ (over : draw < sum + p.1). rw (lt-ltb draw (sum + p.1) over)
+    (((let e : draw < sum + total (within p.0 (p ∷ ps)) = omega (arith, here) in e), inl refl),
+    λ t e. ⊎_elim (λ (s : p.0 ≡ t). omega arith) (λ (a : Among t (ticks ps)). let h : p.0 < t = among_above p.0 t ps r.2 a in omega arith) e.1))
+    (λ (under : sum + p.1 ≤ draw). rw (le-ltb draw (sum + p.1) under)
+    (least_same (Exceeds draw (sum + p.1) ps) (Exceeds draw sum (p ∷ ps)) (pick_from draw (sum + p.1) ps)
+    (λ t e.
+    let above : p.0 < t = among_above p.0 t ps r.2 e.1 in
+    let more : total (within t (p ∷ ps)) ≡ p.1 + total (within t ps) = ap total (within-in t p ps (omega arith)) ∙ total-cons p (within t ps) in
+    ((let h : draw < sum + total (within t (p ∷ ps)) = omega (arith, more, e.0) in h), inr e.1))
+    (λ t e. ⊎_elim
+    (λ (s : p.0 ≡ t). let no : draw < sum + total (within p.0 (p ∷ ps)) = subst (λ (n : ℕ). draw < sum + total (within n (p ∷ ps))) (sym s) e.0 in absurd (omega (arith, here)))
+    (λ (a : Among t (ticks ps)).
+    let above : p.0 < t = among_above p.0 t ps r.2 a in
+    let more : total (within t (p ∷ ps)) ≡ p.1 + total (within t ps) = ap total (within-in t p ps (omega arith)) ∙ total-cons p (within t ps) in
+    ((let h : draw < sum + p.1 + total (within t ps) = omega (arith, more, e.0) in h), a))
+    e.1)
+    (pick_least draw (sum + p.1) p.0 ps r.2 under)))
+    (cases_lt draw (sum + p.1))
+
+pub pick_is : (draw : ℕ) (ps : List (ℕ × ℕ)) → IsTime ps → pick_from draw 0 ps ≡ picked draw ps
+pick_is draw ps r =
+    least_of_is (Exceeds draw 0 ps) (λ t. nat_lt draw (total (within t ps))) (ticks ps) (pick_from draw 0 ps)
+    (λ t e. (lt-ltb draw (total (within t ps)) (omega (arith, e.0)), e.1))
+    (λ t e. ((let h : draw < total (within t ps) = ltb-true draw (total (within t ps)) e.0 in omega arith), e.1))
+    (pick_least draw 0 0 ps r (omega arith))
+
+-- none is picked exactly where the whole mass is too small
+pub pick_none : (draw sum : ℕ) (ps : List (ℕ × ℕ)) → sum ≤ draw → IsNone (pick_from draw sum ps) ↔ (sum + total ps ≤ draw)
+pick_none draw sum [] low = ((λ _. omega arith), (λ _. refl))
+pick_none draw sum (p ∷ ps) low =
+    let whole : total (p ∷ ps) ≡ p.1 + total ps = total-cons p ps in
+    ⊎_elim
+    (λ (over : draw < sum + p.1). rw (lt-ltb draw (sum + p.1) over) ((λ no. absurd (let h : true ≡ false = ? in cc)), (λ small. absurd (omega (arith, whole)))))
+    (λ (under : sum + p.1 ≤ draw). rw (le-ltb draw (sum + p.1) under)
+    (let rest = pick_none draw (sum + p.1) ps under in ((λ no. (let h : sum + p.1 + total ps ≤ draw = rest.0 no in omega (arith, whole))), (λ small. rest.1 (omega (arith, whole))))))
+    (cases_lt draw (sum + p.1))
