@@ -4,7 +4,7 @@ use Rattle.std.proofs.lemmas.List.{length-map, length-replicate, get_or_read, se
 use Rattle.std.specs.List.{refill, length_refill}
 use Rattle.sota_bank.specs.declared.bank.Extent.{Extent}
 use Rattle.sota_bank.specs.Places.{somes, IsRun, spliced}
-use Rattle.sota_bank.specs.Rows.{Row, row_of, list_at, cap_at, with_list, overwritten}
+use Rattle.sota_bank.specs.Rows.{Row, row_of, list_at, cap_at, with_list, AllWithin, overwritten}
 use Rattle.sota_bank.specs.Layout.{extent_at, values, rows_in, IsRowIn, IsLaidOut}
 use Rattle.sota_bank.proofs.Runs.{somes-map, run-before, run-after, run-inside, run-replaced, length-replaced, set-replaced, part_written}
 use Rattle.sota_bank.proofs.Layouts.{list-at, cap-at, changed}
@@ -154,3 +154,8 @@ module _ {X : Type 0} (es : List Extent) (cs : List (Option X)) (h : IsLaidOut e
       let ds = rewritten es cs i x h there is_row from to ws in
       subst (λ b. IsLaidOut es ds × (rows_in es ds ≡ with_list b i (overwritten (list_at b i) from to ws))) view
       (lent es cs i x h there is_row from to ws order (omega (arith, inside, length_is)))
+
+pub all_within : {X : Type 0} (es : List Extent) (cs : List (Option X)) → IsLaidOut es cs → (bank : List (Row X)) → rows_in es cs ≡ bank → AllWithin bank
+all_within {X} es cs h bank view = subst AllWithin view (λ i lt.
+    let there' : i < length es = omega (arith, lt, length-map {B = Row X} es (λ e. row_of (values cs e) e.cap)) in let x = extent_at es i in
+    omega (arith, as_long es cs i x h there' refl, cap-is es cs i x h there' refl, (h.each i there').within))

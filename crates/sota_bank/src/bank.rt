@@ -1,5 +1,5 @@
 //! The bank of rows.
-ghost use Rattle.std.specs.Prelude.{◌≡◌, ◌+◌, ◌^◌, ◌<◌, ◌≤◌, ℕ, List, [], ◌∷◌, ◌++◌, length, map, take, sum, slice_index, slice_range, IfOk, OnOk, OnErr};
+ghost use Rattle.std.specs.Prelude.{◌≡◌, ◌+◌, ◌-◌, ◌^◌, ◌<◌, ◌≤◌, ℕ, List, [], ◌∷◌, ◌++◌, length, take, drop, sum, slice_index, slice_range, IfOk, OnOk, OnErr};
 ghost use Rattle.std.specs.Borrow.{sem};
 ghost use Rattle.sota_bank.specs.Rows.{list_at, cap_at, with_list, lists, capacities, empty_rows, AllWithin, overwritten};
 ghost use Rattle.sota_bank.specs.Layout.{AreEmpty};
@@ -12,7 +12,7 @@ use std::sync::ledger::Ledger;
 
 /// Where a row lies: its first place, how many of its places are written, and how many it has.
 #[derive(Clone, Copy)]
-pub struct Extent {
+struct Extent {
     start: usize,
     len: u32,
     cap: u32,
@@ -111,7 +111,8 @@ impl<T: Copy> RowBank<T> {
 
     /// The number of rows.
     pub fn rows(&self) -> usize
-        ensures { result ≡ length self.now }
+        ensures rows { result ≡ length self.now }
+        ensures within { AllWithin self.now }
     {
         self.extents.len()
     }
@@ -148,6 +149,8 @@ impl<T: Copy> RowBank<T> {
         requires part { (from ≤ to) × (to ≤ length (list_at self.old row)) }
         ensures* writes_back { sem 𝓛 (lends_window T.row self.entry row from to result) }
         ensures value { result.now ≡ slice_range (list_at self.old row) from to }
+        // What is written has the length of the window, so it stands there as it is.
+        ensures as_written { (ws : List T) → length ws ≡ to - from → overwritten (list_at self.old row) from to ws ≡ take from (list_at self.old row) ++ (ws ++ drop to (list_at self.old row)) }
     {
         let extent = self.extents[row];
         self.region

@@ -4,5 +4,7 @@
 mod bank;
 mod cells;
 mod region;
+#[cfg(test)]
+mod tests;
 
 pub use bank::RowBank;

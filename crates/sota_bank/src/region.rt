@@ -9,7 +9,7 @@ use std::alloc::Global;
 use std::marker::Model;
 
 /// A block of `len` places in one allocation, each empty or written. A contract sees the list of the places.
-pub struct Region<T> {
+pub(crate) struct Region<T> {
     base: Base<T>,
     len: usize,
     cells: Cells<T>,
