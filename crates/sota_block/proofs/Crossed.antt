@@ -1,9 +1,9 @@
 -- The plain product's coefficients, from the parts of the two lists that meet there.
-use Rattle.std.proofs.Common.{◌≡◌, ℕ, suc, ◌+◌, ◌-◌, ◌*◌, ◌<◌, ◌≤◌, List, length, get_or, take, drop, refl, ap, ◌∙◌, arith, length-take, length-drop, get_or-take, get_or-drop}
+use Rattle.std.proofs.Common.{◌≡◌, ℕ, suc, ◌+◌, ◌-◌, ◌*◌, ◌<◌, List, length, get_or, take, drop, refl, ap, ◌∙◌, arith, length-take, length-drop, get_or-take, get_or-drop}
 use Rattle.std.proofs.lemmas.List.{get_or_past}
 use Rattle.sota_block.specs.Product.{sum_below, coefficient}
 use Rattle.sota_block.proofs.Sums.{sum_below-same, sum_below-zero, sum_below-add}
-use Rattle.sota_block.proofs.Convolution.{coefficient_is}
+use Rattle.sota_block.proofs.Convolution.{coefficient-sum}
 
 -- each of xs times the one of ys that stands as far from the other end
 abbrev pub crossed_sum : List ℕ → List ℕ → ℕ
@@ -13,7 +13,7 @@ crossed_sum xs ys = sum_below (length xs) (λ b. get_or xs b 0 * get_or ys (leng
 pub crossed_sum-take : (xs ys : List ℕ) (k : ℕ) → k < length xs → crossed_sum (take (k + 1) xs) (take (k + 1) ys) ≡ coefficient xs ys k
 crossed_sum-take xs ys k inside =
     let long : length (take (k + 1) xs) ≡ suc k = omega (arith, length-take (k + 1) xs) in
-    rw (long, coefficient_is) (sum_below-same (suc k) (λ b. get_or (take (k + 1) xs) b 0 * get_or (take (k + 1) ys) (suc k - 1 - b) 0) (λ b. get_or xs b 0 * get_or ys (k - b) 0) (λ b below.
+    rw (long, coefficient-sum) (sum_below-same (suc k) (λ b. get_or (take (k + 1) xs) b 0 * get_or (take (k + 1) ys) (suc k - 1 - b) 0) (λ b. get_or xs b 0 * get_or ys (k - b) 0) (λ b below.
     let place : suc k - 1 - b ≡ k - b = omega arith in
     rw (place, get_or-take (k + 1) xs b 0 (omega arith), get_or-take (k + 1) ys (k - b) 0 (omega arith)) refl))
 
@@ -31,7 +31,7 @@ crossed_sum-drop xs ys k same inside =
     rw (get_or-drop (k + 1) xs b 0, get_or-drop (k + 1) ys (m - 1 - b) 0, here, there) refl) in
     let end = sum_below-zero (suc k) (λ j. terms (suc k + (m + j))) (λ j below. rw (get_or_past xs (suc k + (m + j)) 0 (omega arith)) (omega arith)) in
     let places : suc (n + k) ≡ suc k + (m + suc k) = omega arith in
-    rw coefficient_is
+    rw coefficient-sum
     (omega (arith, ap (λ i. sum_below i terms) places, sum_below-add (suc k) (m + suc k) terms, sum_below-add m (suc k) (λ i. terms (suc k + i)), front, middle, end))
 
 -- the same for the parts that a call splits off

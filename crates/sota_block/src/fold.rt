@@ -85,7 +85,7 @@ fn fold<M: Ledger>(
     add_masses(kernel_low, kernel_high, kernel_sum);
     add_values(values_low, values_high, values_sum);
     fold(kernel_sum, values_sum, middle, scratch, folded, products);
-    add_middle(middle, into_low, into_high);
+    add_middle(half, middle, into_low, into_high);
 }
 
 // The sums of two lists of masses, place by place.
@@ -114,23 +114,20 @@ fn add_values(left: &[u128], right: &[u128], into: &mut [u128])
 }
 
 // Adds to the products of the low and the high halves what the product of the halves' sums has beyond both, half a block
-// later: from the second quarter to the third.
-fn add_middle(middle: &[u128], low: &mut [u128], high: &mut [u128])
-    requires low_length { length low.old ≡ length middle.now }
-    requires high_length { length high.old ≡ length middle.now }
-    requires even { length middle.now ≡ length middle.now / 2 + length middle.now / 2 }
+// later: in the second quarter and the third.
+fn add_middle(half: usize, middle: &[u128], low: &mut [u128], high: &mut [u128])
+    requires middle_length { length middle.now ≡ half + half }
+    requires low_length { length low.old ≡ half + half }
+    requires high_length { length high.old ≡ half + half }
     requires beyond { EachIndex middle.now (λ k. slice_index low.old k + slice_index high.old k ≤ slice_index middle.now k) }
     requires small { All (λ c. c < 2 ^ 107) middle.now }
-    ensures first { (i : ℕ) → i < length middle.now / 2 → slice_index low.new i ≡ slice_index low.old i }
-    ensures second { (i : ℕ) → i < length middle.now / 2 → slice_index low.new (length middle.now / 2 + i)
-        ≡ slice_index low.old (length middle.now / 2 + i) + (slice_index middle.now i - slice_index low.old i - slice_index high.old i) }
-    ensures third { (i : ℕ) → i < length middle.now / 2 → slice_index high.new i
-        ≡ slice_index high.old i + (slice_index middle.now (length middle.now / 2 + i)
-        - slice_index low.old (length middle.now / 2 + i) - slice_index high.old (length middle.now / 2 + i)) }
-    ensures fourth { (i : ℕ) → i < length middle.now / 2 →
-        slice_index high.new (length middle.now / 2 + i) ≡ slice_index high.old (length middle.now / 2 + i) }
+    ensures first { (i : ℕ) → i < half → slice_index low.new i ≡ slice_index low.old i }
+    ensures second { (i : ℕ) → i < half → slice_index low.new (half + i)
+        ≡ slice_index low.old (half + i) + (slice_index middle.now i - slice_index low.old i - slice_index high.old i) }
+    ensures third { (i : ℕ) → i < half → slice_index high.new i
+        ≡ slice_index high.old i + (slice_index middle.now (half + i) - slice_index low.old (half + i) - slice_index high.old (half + i)) }
+    ensures fourth { (i : ℕ) → i < half → slice_index high.new (half + i) ≡ slice_index high.old (half + i) }
 {
-    let half = middle.len() / 2;
     let (middle_low, middle_high) = middle.split_at(half);
     let (first, second) = low.split_at_mut(half);
     let (third, fourth) = high.split_at_mut(half);

@@ -1,4 +1,4 @@
-use Rattle.std.proofs.Common.{ℕ, suc, ◌-◌, length, arith}
+use Rattle.std.proofs.Common.{suc, ◌-◌, length, arith}
 use Rattle.sota_block.specs.Product.{FOLDED_LIMIT}
 use Rattle.sota_block.proofs.Limits.{weighed-le, sum-le-limit}
 use Rattle.sota_block.proofs.plain.crossed.Goals as goal
