@@ -1,5 +1,5 @@
 -- The least number that passes a test.
-use Rattle.std.proofs.Common.{ℕ, ◌≡◌, ◌<◌, ◌≤◌, Bool, true, false, cond, min, List, [], ◌∷◌, ◌++◌, Option, None, Some, refl, sym, ◌∙◌, ap, subst, arith, inl, inr, ◌⊎◌, ⊎_elim}
+use Rattle.std.proofs.Common.{ℕ, ◌≡◌, ◌<◌, ◌≤◌, Bool, true, false, cond, min, List, [], ◌∷◌, Option, None, Some, refl, sym, ◌∙◌, ap, subst, arith, inl, inr, ◌⊎◌, ⊎_elim}
 use Rattle.std.specs.Option.{option_map_or}
 use Rattle.std.specs.List.{filter}
 use Rattle.std.proofs.lemmas.Bool.{cases_lt}
@@ -34,15 +34,17 @@ abbrev pub Passes : (ℕ → Bool) → List ℕ → ℕ → Type 0
 Passes test xs n = (test n ≡ true) × Among n xs
 
 least_cons : (test : ℕ → Bool) (x : ℕ) (xs : List ℕ) (r : Option ℕ) → test x ≡ true → LeastSuch (Passes test xs) r → LeastSuch (Passes test (x ∷ xs)) (Some (option_map_or (λ y. min x y) r x))
-least_cons test x xs None passes least =
-    ((passes, inl refl),
-    λ n p. ⊎_elim (λ (e : x ≡ n). omega arith) (λ (a : Among n xs). absurd (least n (p.0, a))) p.1)
-least_cons test x xs (Some m) passes least =
-    (⊎_elim
-    (λ (before : x < m). let at : min x m ≡ x = omega arith in rw at (passes, inl refl))
-    (λ (after : m ≤ x). let at : min x m ≡ m = omega arith in rw at (least.0.0, inr least.0.1))
-    (cases_lt x m),
-    λ n p. ⊎_elim (λ (e : x ≡ n). omega arith) (λ (a : Among n xs). let h : m ≤ n = least.1 n (p.0, a) in omega arith) p.1)
+least_cons test x xs None passes least = (
+  (passes, inl refl),
+  λ n p. ⊎_elim (λ (e : x ≡ n). omega arith) (λ (a : Among n xs). absurd (least n (p.0, a))) p.1,
+)
+least_cons test x xs (Some m) passes least = (
+  ⊎_elim
+      (λ (before : x < m). let at : x ≡ min x m = omega arith in subst (Passes test (x ∷ xs)) at (passes, inl refl))
+      (λ (after : m ≤ x). let at : m ≡ min x m = omega arith in subst (Passes test (x ∷ xs)) at (least.0.0, inr least.0.1))
+      (cases_lt x m),
+  λ n p. ⊎_elim (λ (e : x ≡ n). omega arith) (λ (a : Among n xs). let h : m ≤ n = least.1 n (p.0, a) in omega arith) p.1,
+)
 
 least_skip : (test : ℕ → Bool) (x : ℕ) (xs : List ℕ) (r : Option ℕ) → test x ≡ false → LeastSuch (Passes test xs) r → LeastSuch (Passes test (x ∷ xs)) r
 least_skip test x xs r fails least =

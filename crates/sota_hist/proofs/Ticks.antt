@@ -1,9 +1,10 @@
 -- Lists of pairs whose ticks rise.
-use Rattle.std.proofs.Common.{ℕ, zero, suc, ◌≡◌, ◌+◌, ◌<◌, ◌≤◌, Bool, true, false, cond, max, List, [], ◌∷◌, ◌++◌, length, get_or, refl, sym, ◌∙◌, ap, subst, arith, inl, inr, ◌⊎◌, ⊎_elim, nat_eq, nat_le, nat_lt}
+use Rattle.std.proofs.Common.{ℕ, zero, suc, ◌≡◌, ◌+◌, ◌-◌, ◌<◌, ◌≤◌, Bool, true, false, cond, max, List, [], ◌∷◌, length, get_or, take, refl, sym, ◌∙◌, ap, arith, inl, inr, ⊎_elim, nat_eq}
 use Rattle.std.specs.List.{filter}
+use Rattle.std.specs.List.Sorted.{IsNonDecreasingBy, IsPartitionPoint}
 use Rattle.std.proofs.lemmas.List.Sums.{sum_by-cons}
-use Rattle.std.proofs.lemmas.Bool.{cases_lt, cases_eq, le-leb, lt-leb, lt-ltb, le-ltb, eq-eqb, ne_eqb}
-use Rattle.sota_hist.specs.Time.{RisesFrom, total, ticks, within, before, mass_at, greatest_tick}
+use Rattle.std.proofs.lemmas.Bool.{cases_eq, le-leb, lt-leb, le-ltb, eq-eqb, ne_eqb}
+use Rattle.sota_hist.specs.Time.{RisesFrom, IsTime, total, ticks, within, before, mass_at, greatest_tick}
 use Rattle.sota_hist.proofs.Least.{Among}
 
 pub total-cons : (p : ℕ × ℕ) (ps : List (ℕ × ℕ)) → total (p ∷ ps) ≡ p.1 + total ps
@@ -62,7 +63,7 @@ pub within_none : (floor t : ℕ) (ps : List (ℕ × ℕ)) → RisesFrom floor p
 within_none floor t [] r low = refl
 within_none floor t (p ∷ ps) r low =
     let late : t < p.0 = omega (arith, r.0) in
-    rw (lt-leb t p.0 late) (within_none p.0 t ps r.2 (omega (arith, r.0)))
+    rw (lt-leb p.0 t late) (within_none p.0 t ps r.2 (omega (arith, r.0)))
 
 pub before_none : (floor t : ℕ) (ps : List (ℕ × ℕ)) → RisesFrom floor ps → t ≤ suc floor → before t ps ≡ []
 before_none floor t [] r low = refl
@@ -81,3 +82,46 @@ greatest_tick_last floor p (q ∷ ps) d r =
 pub some_from_total : (ps : List (ℕ × ℕ)) → 1 ≤ total ps → 0 < length ps
 some_from_total [] h = absurd (omega arith)
 some_from_total (p ∷ ps) h = omega arith
+
+-- ---- the order by index, as std's searches have it
+pub rises_at : (floor : ℕ) (ps : List (ℕ × ℕ)) (k : ℕ) (d : ℕ × ℕ) → RisesFrom floor ps → k < length ps → (floor < (get_or ps k d).0) × (1 ≤ (get_or ps k d).1)
+rises_at floor [] k d r h = absurd (omega arith)
+rises_at floor (p ∷ ps) zero d r h = (r.0, r.1)
+rises_at floor (p ∷ ps) (suc k) d r h =
+    let rest = rises_at p.0 ps k d r.2 (let below : k < length ps = omega arith in below) in
+    (omega (arith, r.0, rest.0), rest.1)
+
+pub rises_ordered : (floor : ℕ) (ps : List (ℕ × ℕ)) → RisesFrom floor ps → IsNonDecreasingBy (λ p. p.0) ps
+rises_ordered floor [] r i j d low high = absurd (omega arith)
+rises_ordered floor (p ∷ ps) r zero zero d low high = omega arith
+rises_ordered floor (p ∷ ps) r zero (suc j) d low high = omega (arith, (rises_at p.0 ps j d r.2 (let below : j < length ps = omega arith in below)).0)
+rises_ordered floor (p ∷ ps) r (suc i) zero d low high = absurd (omega arith)
+rises_ordered floor (p ∷ ps) r (suc i) (suc j) d low high = rises_ordered p.0 ps r.2 i j d (omega arith) (let below : j < length ps = omega arith in below)
+
+-- a list whose first i elements pass and whose others fail
+pub filter_split : {X : Type 0} (test : X → Bool) (xs : List X) (i : ℕ) → IsPartitionPoint (λ x. test x ≡ true) (λ x. test x ≡ false) xs i → i ≤ length xs → take i xs ≡ filter test xs
+filter_split test [] zero point h = refl
+filter_split test [] (suc i) point h = refl
+filter_split test (x ∷ xs) zero point h =
+    rw (let fails : test x ≡ false = point.1 0 x (omega arith) (omega arith) in fails)
+    (filter_split test xs zero ((λ k d low high. absurd (omega arith)), (λ k d low high. point.1 (suc k) d (omega arith) (omega arith))) (omega arith))
+filter_split test (x ∷ xs) (suc i) point h =
+    rw (let passes : test x ≡ true = point.0 0 x (omega arith) (omega arith) in passes)
+    (ap (λ ys. x ∷ ys)
+    (filter_split test xs i ((λ k d low high. point.0 (suc k) d (omega arith) (omega arith)), (λ k d low high. point.1 (suc k) d (omega arith) (omega arith))) (omega arith)))
+
+-- there are at most as many pairs as masses
+pub length-le-total : (floor : ℕ) (ps : List (ℕ × ℕ)) → RisesFrom floor ps → length ps ≤ total ps
+length-le-total floor [] r = omega arith
+length-le-total floor (p ∷ ps) r = omega (arith, length-le-total p.0 ps r.2, total-cons p ps, r.1)
+
+-- what the reads of a histogram stand on
+pub ruleset readings = (some_from_total, length-le-total)
+
+-- the last pair has the greatest tick
+pub last_tick : (ps : List (ℕ × ℕ)) (d : ℕ × ℕ) → IsTime ps → 1 ≤ length ps → ((get_or ps (length ps - 1) d).0 ≡ greatest_tick ps) × (1 ≤ (get_or ps (length ps - 1) d).0)
+last_tick [] d r some = absurd (omega arith)
+last_tick (p ∷ ps) d r some =
+    let last : length (p ∷ ps) - 1 ≡ length ps = omega arith in
+    let top = greatest_tick_last 0 p ps d r in
+    rw last (sym top.0, rw (← top.0) (omega (arith, top.1)))

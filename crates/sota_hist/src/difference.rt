@@ -10,10 +10,15 @@ pub(crate) fn first_difference_of(ours: &[(Tick, Mass)], theirs: &[(Tick, Mass)]
     requires theirs { IsTime theirs.now }
     ensures { result ≡ first_difference ours.now theirs.now }
 {
-    let same = ours.iter().zip(theirs).take_while(|(our, their)| our == their).count();
-    match (ours.get(same), theirs.get(same)) {
-        (Some(our), Some(their)) => Some(our.0.min(their.0)),
-        (Some(pair), None) | (None, Some(pair)) => Some(pair.0),
-        (None, None) => None,
+    for (index, our) in ours.iter().enumerate() {
+        match theirs.get(index) {
+            Some(their) if our == their => {}
+            Some(their) => return Some(Tick(our.0.get().min(their.0.get()))),
+            None => return Some(our.0),
+        }
+    }
+    match theirs.get(ours.len()) {
+        Some(their) => Some(their.0),
+        None => None,
     }
 }

@@ -7,7 +7,7 @@ ghost use Rattle.sota_hist.specs.Build.{positive, time_of, hist_fault, IsFault};
 
 use crate::HistFault;
 use crate::difference::first_difference_of;
-use crate::sorted::{positive_pairs, repeated_tick_of, sort_by_tick, total_of, zero_tick_of};
+use crate::sorted::{repeated_tick_of, sorted_pairs, total_of, zero_tick_of};
 use smallvec::SmallVec;
 use sota_units::{Mass, NoMemory, Scale, Tick};
 use std::alloc::Global;
@@ -51,16 +51,15 @@ impl Histogram {
         if let Some(place) = zero_tick_of(pairs) {
             return Err(HistFault::ZeroTick(place));
         }
-        let mut kept = positive_pairs(alloc, pairs)?;
-        sort_by_tick(&mut kept);
-        if let Some(tick) = repeated_tick_of(&kept) {
+        let sorted = sorted_pairs(alloc, pairs)?;
+        if let Some(tick) = repeated_tick_of(&sorted) {
             return Err(HistFault::RepeatedTick(tick));
         }
-        let sum = total_of(&kept);
+        let sum = total_of(&sorted);
         if sum != u64::from(scale.get()) {
             return Err(HistFault::Sum(sum));
         }
-        match SmallVec::from_slice(alloc, &kept) {
+        match SmallVec::from_slice(alloc, &sorted) {
             Ok(pairs) => Ok(Histogram { pairs }),
             Err(_) => Err(HistFault::NoMemory),
         }
@@ -88,21 +87,25 @@ impl Histogram {
         }
     }
 
-    /// The pairs, in rising ticks.
+    /// The pairs, in rising ticks. There is at least one, and at most one for each mass of the total.
+    #[tactic(auto, using(crate::proofs::Ticks::readings))]
     pub fn pairs(&self) -> &[(Tick, Mass)]
         ensures value { result.now ≡ self.now }
         ensures valid { IsTime result.now }
+        ensures some { 1 ≤ length result.now }
+        ensures few { length result.now ≤ SCALE_LIMIT }
     {
         self.pairs.as_slice()
     }
 
     /// The sum of the masses.
+    #[tactic(auto, using(crate::proofs::Ticks::readings))]
     pub fn total(&self) -> u64
         ensures value { result ≡ total self.now }
         ensures positive { 1 ≤ result }
         ensures within { result ≤ SCALE_LIMIT }
     {
-        total_of(self.pairs())
+        total_of(self.pairs.as_slice())
     }
 
     /// The least tick.
@@ -168,8 +171,14 @@ mod tests {
         let alloc = rt.alloc();
         let four = Scale::new(4).ok_or("a scale")?;
         let faulty: [(&[(Tick, Mass)], HistFault); 3] = [
-            (&[(Tick(0), Mass(1)), (Tick(2), Mass(3))], HistFault::ZeroTick(0)),
-            (&[(Tick(2), Mass(1)), (Tick(2), Mass(3))], HistFault::RepeatedTick(Tick(2))),
+            (
+                &[(Tick(0), Mass(1)), (Tick(2), Mass(3))],
+                HistFault::ZeroTick(0),
+            ),
+            (
+                &[(Tick(2), Mass(1)), (Tick(2), Mass(3))],
+                HistFault::RepeatedTick(Tick(2)),
+            ),
             (&[(Tick(2), Mass(3))], HistFault::Sum(3)),
         ];
         for (pairs, fault) in faulty {
@@ -177,7 +186,10 @@ mod tests {
         }
         let pairs = [(Tick(5), Mass(1)), (Tick(3), Mass(3)), (Tick(0), Mass(0))];
         let built = Histogram::build(alloc, four, &pairs)?;
-        assert_eq!(rt; built.pairs(), [(Tick(3), Mass(3)), (Tick(5), Mass(1))].as_slice());
+        assert_eq!(rt;
+            built.pairs(),
+            [(Tick(3), Mass(3)), (Tick(5), Mass(1))].as_slice()
+        );
         for (draw, tick) in [(2, Some(Tick(3))), (3, Some(Tick(5))), (4, None)] {
             assert_eq!(rt; built.pick(draw), tick);
         }
