@@ -1,0 +1,50 @@
+//! The program: it hands its words, the files of the system and the standard output to the top call.
+#![tactic(auto)]
+
+ghost use Rattle.std.specs.Prelude.{◌≡◌, ◌<◌};
+
+mod file_desk;
+mod out_sink;
+mod shortage;
+
+use file_desk::FileDesk;
+use out_sink::OutSink;
+use shortage::is_shortage;
+use sota_app::{Status, run};
+use sota_units::Steps;
+use std::marker::Brand;
+use std::process::ExitCode;
+use std::sync::ledger::{Blank, Ledger};
+use std::{env, io};
+
+// The exit status where the system does not give the words.
+const NO_WORDS: u8 = 7;
+
+/// The words behind the program's name.
+fn read_words(rt: &HostRuntime) -> io::Result<Vec<String>> {
+    Ok(env::args(rt)?.skip(1).collect(rt.alloc())?)
+}
+
+/// Makes the top call over the files and the standard output, with a counter of the blank's ledger.
+fn run_over<L: Ledger>(rt: &HostRuntime, words: &[String], blank: Blank) -> Status
+    requires name { blank.name ≡ L.name }
+    requires parts { blank.parts ≡ L.parts }
+    requires some { 0 < blank.parts }
+{
+    let mut pushes = Steps::<L>::new(blank);
+    let mut desk = FileDesk::new(rt);
+    let mut out = OutSink::new(io::writer(rt));
+    run(rt.alloc(), words, &mut desk, &mut out, &mut pushes)
+}
+
+fn main(rt: HostRuntime) -> ExitCode {
+    let code = match read_words(&rt) {
+        Ok(words) => run_over::<Brand>(&rt, &words, Blank::new(1)).code(),
+        Err(error) if is_shortage(&error) => Status::NoMemory.code(),
+        Err(_) => NO_WORDS,
+    };
+    ExitCode::from(code)
+}
+
+#[cfg(test)]
+mod tests;

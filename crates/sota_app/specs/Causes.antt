@@ -1,0 +1,70 @@
+-- What stands behind each status.
+use Rattle.std.specs.Prelude.{◌≡◌, ◌⊎◌, ℕ, ◌+◌, ◌≤◌, List, [], fold, Option, Some, None, IfSome, option_map}
+use Rattle.std.specs.Option.{IsSomeAnd}
+use Rattle.sota_edge.specs.Counts.{Rose, RoseBy}
+use Rattle.sota_edge.specs.Desk.{Files, DeskState, stored}
+use Rattle.sota_edge.specs.Sink.{SinkState, Wrote}
+use Rattle.sota_app.specs.Outcome.{Outcome, outcome_of, no_command}
+use Rattle.sota_app.specs.Refusals.{GRAPH_LIMIT, refusal_line}
+use Rattle.sota_app.specs.declared.refusal.Refusal.{Refusal}
+use Rattle.sota_app.specs.declared.refusal.Refusal.TheVariants.{GraphTooLong, Graph, HistogramsNotYet, Hists}
+use Rattle.sota_app.specs.declared.words.Command.{Command}
+use Rattle.sota_app.specs.declared.words.Command.TheVariants as commands
+use Rattle.sota_app.specs.declared.status.Status.{Status}
+use Rattle.sota_app.specs.declared.status.Status.TheVariants.{Done, SomeRefused, Words, Input, ReadFault, WriteFault, NoMemory}
+
+-- the files after these stores, in order
+abbrev pub all_stored : List (List ℕ × List ℕ) → Files → Files
+all_stored stores files = fold (λ held store. stored store.0 store.1 held) files stores
+
+-- the whole outcome stands: its status, its text behind what was written, and its stores
+pub record Delivered (outcome : Outcome) (answer : Status) (desk_old desk_new : DeskState) (sink_old sink_new : SinkState) : Type 0 where
+  pub status : outcome.status ≡ answer
+  pub text : Wrote outcome.text sink_old sink_new
+  pub stores : desk_new.holds ≡ option_map (all_stored outcome.stores) desk_old.holds
+
+-- what is said where the desk tells what it holds
+abbrev pub Told : DeskState → (Files → Type 0) → Type 0
+Told desk P = IfSome desk.holds P
+
+-- no count of faults rose
+pub record NoFault (desk_old desk_new : DeskState) (sink_old sink_new : SinkState) : Type 0 where
+  pub loads : Rose desk_old.load_faults desk_new.load_faults → ⊥
+  pub stores : Rose desk_old.store_faults desk_new.store_faults → ⊥
+  pub puts : Rose sink_old.faults sink_new.faults → ⊥
+
+-- a load of this name failed, or the desk tells that it does not hold it
+abbrev pub Unread : List ℕ → DeskState → DeskState → Type 0
+Unread name old new =
+    (Rose old.load_faults new.load_faults × (new.fault_name ≡ Some name)) ⊎ IsSomeAnd old.holds (λ files. files name ≡ None)
+
+-- of an input of the command, all inputs before it being accepted
+abbrev pub UnreadInput : Command → DeskState → DeskState → Type 0
+UnreadInput (commands.Ask said) old new = Unread said.graph old new
+
+-- a refusal for what stands in an input
+abbrev pub IsOfText : Refusal → Type 0
+IsOfText GraphTooLong = ⊥
+IsOfText (Graph fault) = Unit {0}
+IsOfText HistogramsNotYet = Unit {0}
+IsOfText (Hists fault) = Unit {0}
+
+-- where an input is refused for its length, more than its limit was taken
+abbrev pub Took : Refusal → DeskState → DeskState → Type 0
+Took refusal old new = IsOfText refusal ⊎ RoseBy (GRAPH_LIMIT + 1) old.taken new.taken
+
+-- what stands behind a status, where the words say this command or none
+abbrev pub Cause : Status → Option Command → DeskState → DeskState → SinkState → SinkState → Type 0
+Cause Done said desk_old desk_new sink_old sink_new =
+    IsSomeAnd said (λ _. Told desk_old (λ files. Delivered (outcome_of said files) Done desk_old desk_new sink_old sink_new))
+Cause SomeRefused said desk_old desk_new sink_old sink_new =
+    IsSomeAnd said (λ _. Told desk_old (λ files. Delivered (outcome_of said files) SomeRefused desk_old desk_new sink_old sink_new))
+Cause Words said desk_old desk_new sink_old sink_new =
+    (said ≡ None) × Wrote no_command.text sink_old sink_new × (desk_new ≡ desk_old)
+Cause Input said desk_old desk_new sink_old sink_new =
+    IsSomeAnd said (λ _. Told desk_old (λ files. Delivered (outcome_of said files) Input desk_old desk_new sink_old sink_new)
+    × ((refusal : Refusal) × Wrote (refusal_line refusal) sink_old sink_new × Took refusal desk_old desk_new))
+Cause ReadFault said desk_old desk_new sink_old sink_new =
+    IsSomeAnd said (λ command. UnreadInput command desk_old desk_new) × (sink_new ≡ sink_old) × (desk_new.holds ≡ desk_old.holds)
+Cause WriteFault said desk_old desk_new sink_old sink_new = Rose sink_old.faults sink_new.faults
+Cause NoMemory said desk_old desk_new sink_old sink_new = Unit {0}

@@ -1,0 +1,10 @@
+pub mod Status
+pub mod Said
+pub mod Words
+pub mod Asks
+pub mod Replies
+pub mod Refusals
+pub mod Outcome
+pub mod Causes
+pub mod Inputs
+pub mod Meaning

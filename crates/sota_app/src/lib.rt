@@ -1,0 +1,16 @@
+//! The top call: it reads the words and the files that they name, and writes the replies.
+#![tactic(auto)]
+
+mod ask;
+mod inputs;
+mod refusal;
+mod reply;
+mod status;
+mod top;
+mod words;
+
+pub use status::Status;
+pub use top::run;
+
+#[cfg(test)]
+mod tests;
