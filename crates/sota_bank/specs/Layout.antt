@@ -4,6 +4,7 @@ use Rattle.sota_bank.specs.Places.{somes}
 use Rattle.sota_bank.specs.Rows.{Row, row_of}
 use Rattle.sota_bank.specs.declared.bank.Extent.{Extent}
 
+-- where a row lies
 abbrev pub extent_at : List Extent → ℕ → Extent
 extent_at es i = slice_index_or es i (record { start = 0; len = 0; cap = 0 })
 
@@ -12,6 +13,7 @@ module _ {X : Type 0} where
   abbrev pub values : List (Option X) → Extent → List X
   values cs e = somes (take e.len (drop e.start cs))
 
+  -- the rows, as a contract sees them
   abbrev pub rows_in : List Extent → List (Option X) → List (Row X)
   rows_in es cs = map (λ e. row_of (values cs e) e.cap) es
 

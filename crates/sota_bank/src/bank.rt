@@ -20,12 +20,12 @@ struct Extent {
 
 /// Rows of unequal length in one allocation. A contract sees the list of the rows, each a list with a capacity.
 #[derive(Drop)]
-pub struct RowBank<T> {
+pub struct RowBank<T: Copy> {
     extents: Vec<Extent>,
     region: Region<T>,
 }
 
-impl<T> Model for RowBank<T> {
+impl<T: Copy> Model for RowBank<T> {
     ghost use Rattle.std.specs.Prelude.{List};
     ghost use Rattle.std.specs.Coded.{coded_list};
     ghost use Rattle.sota_bank.specs.Rows.{Row, row_code};
@@ -46,7 +46,7 @@ fn empty_extents(alloc: Global, caps: &[u32]) -> Result<(Vec<Extent>, usize), No
     requires { sum caps.now ≤ 2 ^ 31 }
     ensures { IfOk result (λ r. AreEmpty r.0.items caps.now × (r.1 ≡ sum caps.now)) }
 {
-    let mut extents = Vec::new(alloc);
+    let mut extents = Vec::with_capacity(alloc, caps.len())?;
     let mut start: usize = 0;
     for cap in caps {
         extents.push(Extent {
@@ -95,7 +95,8 @@ impl<T: Copy> RowBank<T> {
     /// memory all is unchanged.
     pub fn regrow(&mut self, caps: &[u32]) -> Result<(), NoMemory>
         requires rows { length caps.now ≡ length self.old }
-        requires room { (row : ℕ) → row < length self.old → length (list_at self.old row) ≤ slice_index caps.now row }
+        requires room { (row : ℕ) → row < length self.old
+            → length (list_at self.old row) ≤ slice_index caps.now row }
         requires total { sum caps.now ≤ 2 ^ 31 }
         ensures lists { OnOk result (lists self.new ≡ lists self.old) }
         ensures capacities { OnOk result (capacities self.new ≡ caps.now) }
@@ -150,7 +151,8 @@ impl<T: Copy> RowBank<T> {
         ensures* writes_back { sem 𝓛 (lends_window T.row self.entry row from to result) }
         ensures value { result.now ≡ slice_range (list_at self.old row) from to }
         // What is written has the length of the window, so it stands there as it is.
-        ensures as_written { (ws : List T) → length ws ≡ to - from → overwritten (list_at self.old row) from to ws ≡ take from (list_at self.old row) ++ (ws ++ drop to (list_at self.old row)) }
+        ensures as_written { let list = list_at self.old row in (ws : List T) → length ws ≡ to - from
+            → overwritten list from to ws ≡ take from list ++ (ws ++ drop to list) }
     {
         let extent = self.extents[row];
         self.region

@@ -1,4 +1,5 @@
-//! The block, as Rust's `[MaybeUninit<T>]`: places side by side, each empty or written. All that handles a raw pointer is here.
+//! The block, as Rust's `[MaybeUninit<T>]`: places side by side, each empty or written. All that handles a raw pointer
+//! is here. The pointer, the owner of the places and the right to free them are three values, as in `circular_buffer`.
 ghost use Rattle.std.specs.Prelude.{◌≡◌, ℕ, ◌+◌, ◌<◌, ◌≤◌, List, Option, Some, None, map, length, take, drop, replicate, slice_set, IfOk, IsTrue};
 ghost use Rattle.std.specs.Borrow.{sem};
 ghost use Rattle.std.specs.Mem.{type_size};
@@ -84,7 +85,8 @@ pub(crate) fn allocate<T, A: Allocator>(
     len: usize,
 ) -> Result<(Base<T>, Cells<T>, Deed<T, A>), AllocError>
     requires { FitsInBlock T.row len }
-    ensures { IfOk result (λ r. (r.1.at ≡ r.0.ptr) × (r.1.slots ≡ replicate len None) × (r.2.at ≡ r.0.ptr) × (r.2.len ≡ len) × (r.2.alloc ≡ alloc.now)) }
+    ensures { IfOk result (λ r. (r.1.at ≡ r.0.ptr) × (r.1.slots ≡ replicate len None)
+        × (r.2.at ≡ r.0.ptr) × (r.2.len ≡ len) × (r.2.alloc ≡ alloc.now)) }
 {
     match alloc.allocate(len * size_of::<T>(), align_of::<T>()) {
         Ok(block) => {
@@ -109,7 +111,8 @@ pub(crate) fn deallocate<T, A: Allocator>(
     cells: Cells<T>,
     deed: Deed<T, A>,
 )
-    requires { (cells.at ≡ base.ptr) × (length cells.slots ≡ len) × (deed.at ≡ base.ptr) × (deed.len ≡ len) × (deed.alloc ≡ alloc.now) }
+    requires { (cells.at ≡ base.ptr) × (length cells.slots ≡ len)
+        × (deed.at ≡ base.ptr) × (deed.len ≡ len) × (deed.alloc ≡ alloc.now) }
 {
     let Cells { mark: _ } = cells;
     let Deed { mark: _ } = deed;
@@ -124,7 +127,8 @@ impl<T> Cells<T> {
     /// Writes the place at `index`. A value that it held is forgotten.
     pub(crate) fn write(&mut self, base: Base<T>, index: usize, item: T)
         requires { (base.ptr ≡ self.old.at) × (index < length self.old.slots) }
-        ensures { (self.new.at ≡ self.old.at) × (self.new.slots ≡ slice_set self.old.slots index (Some item)) }
+        ensures { (self.new.at ≡ self.old.at)
+            × (self.new.slots ≡ slice_set self.old.slots index (Some item)) }
     {
         unsafe { base.ptr.add(index).write(item) }
     }
@@ -157,9 +161,12 @@ impl<T> Cells<T> {
         to: usize,
         len: usize,
     )
-        requires { (base.ptr ≡ self.old.at) × IsRun self.old.slots from len × (other_base.ptr ≡ other.old.at) × (to + len ≤ length other.old.slots) }
-        ensures other { (other.new.at ≡ other.old.at) × (other.new.slots ≡ spliced other.old.slots to len (take len (drop from self.old.slots))) }
-        ensures emptied { (self.new.at ≡ self.old.at) × (self.new.slots ≡ spliced self.old.slots from len (replicate len None)) }
+        requires { (base.ptr ≡ self.old.at) × IsRun self.old.slots from len
+            × (other_base.ptr ≡ other.old.at) × (to + len ≤ length other.old.slots) }
+        ensures other { (other.new.at ≡ other.old.at)
+            × (other.new.slots ≡ spliced other.old.slots to len (take len (drop from self.old.slots))) }
+        ensures emptied { (self.new.at ≡ self.old.at)
+            × (self.new.slots ≡ spliced self.old.slots from len (replicate len None)) }
     {
         unsafe { copy_nonoverlapping(base.ptr.add(from), other_base.ptr.add(to), len) }
     }

@@ -1,4 +1,7 @@
-//! Rows of unequal length in one allocation.
+//! Rows of unequal length in one uninitialised allocation, by raw pointers.
+//!
+//! `cells` has each function with a pointer, a few lines behind a safe signature. `region` is a block that frees itself,
+//! and `bank` says where each row lies in it: both are safe code.
 #![tactic(auto)]
 
 mod bank;

@@ -9,7 +9,7 @@ use std::alloc::Global;
 use std::marker::Model;
 
 /// A block of `len` places in one allocation, each empty or written. A contract sees the list of the places.
-pub(crate) struct Region<T> {
+pub(crate) struct Region<T: Copy> {
     base: Base<T>,
     len: usize,
     cells: Cells<T>,
@@ -17,7 +17,7 @@ pub(crate) struct Region<T> {
     alloc: Global,
 }
 
-impl<T> Model for Region<T> {
+impl<T: Copy> Model for Region<T> {
     ghost use Rattle.std.specs.Prelude.{List, Option};
 
     ghost Value = { List (Option T) };
@@ -29,7 +29,7 @@ impl<T> Model for Region<T> {
     ghost invariant = { IsOneBlock };
 }
 
-impl<T> Region<T> {
+impl<T: Copy> Region<T> {
     ghost use Rattle.sota_bank.specs.RegionLends.{lends_part};
 
     /// A block of empty places, in a new allocation.
@@ -91,7 +91,8 @@ impl<T> Region<T> {
     }
 }
 
-impl<T> Drop for Region<T> {
+// The values are forgotten, which a `Copy` type allows.
+impl<T: Copy> Drop for Region<T> {
     fn drop(self) {
         let Region {
             base,

@@ -18,6 +18,6 @@ returns g c =
       record {
         writes_back = tt;
         value = sym (somes-map ws) ∙ ap somes (sym c.slice_mut.ensures.value ∙ (window_run c.self.inside.extents.items c.self.inside.region c.self.invariant c.args.self.now c.self.view_is c.args.row c.requires.row c.index-extent.result.now c.index-extent.ensures from to c.requires.part.0 c.requires.part.1).1) ∙ somes-map xs;
-      as_written = λ ws e. ap (λ l. take from (list_at c.args.self.now c.args.row) ++ (l ++ drop to (list_at c.args.self.now c.args.row))) (take_at ws (drop (length ws) xs) (to - from) e);
+        as_written = λ ws e. ap (λ l. take from (list_at c.args.self.now c.args.row) ++ (l ++ drop to (list_at c.args.self.now c.args.row))) (take_at ws (drop (length ws) xs) (to - from) e);
       },
     )
