@@ -5,6 +5,8 @@ mod fault;
 mod graph;
 mod line;
 mod reader;
+#[cfg(test)]
+mod tests;
 
 pub use fault::GraphFault;
 pub use graph::{RawArc, RawArcs, RawGraph};

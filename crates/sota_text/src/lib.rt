@@ -5,6 +5,8 @@ mod fields;
 mod lines;
 mod number;
 mod span;
+#[cfg(test)]
+mod tests;
 mod text_out;
 
 pub use fields::Fields;
