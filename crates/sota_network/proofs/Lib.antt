@@ -1,5 +1,6 @@
 pub mod Listed
 pub mod Grouped
+pub mod Placed
 pub mod Sums
 pub mod Best
 pub mod Bests

@@ -32,22 +32,14 @@ pub struct Network {
 }
 
 impl Model for Network {
-    ghost use Rattle.std.specs.Prelude.{ℕ, ◌≡◌, ◌≤◌, length, map};
-    ghost use Rattle.sota_units.specs.Rounding.{SCALE_LIMIT};
-    ghost use Rattle.sota_network.specs.Network.{Net, IsNet, NODE_LIMIT, ARC_LIMIT};
-    ghost use Rattle.sota_network.specs.Adjacency.{grouped};
+    ghost use Rattle.sota_network.specs.Network.{Net};
+    ghost use Rattle.sota_network.specs.Adjacency.{IsIndexed};
 
     ghost Value = { Net };
 
     ghost view = { λ a. record { nodes = a.nodes; scale = a.scale; arcs = a.arcs.items } };
 
-    ghost invariant = { λ a.
-        IsNet (record { nodes = a.nodes; scale = a.scale; arcs = a.arcs.items })
-        × ((1 ≤ a.nodes) × (a.nodes ≤ NODE_LIMIT))
-        × (a.scale ≤ SCALE_LIMIT)
-        × (length a.arcs.items ≤ ARC_LIMIT)
-        × (a.leaving ≡ grouped a.nodes (map (λ arc. arc.tail) a.arcs.items))
-        × (a.entering ≡ grouped a.nodes (map (λ arc. arc.head) a.arcs.items)) };
+    ghost invariant = { λ a. IsIndexed (record { nodes = a.nodes; scale = a.scale; arcs = a.arcs.items }) a.leaving a.entering };
 }
 
 impl Network {
