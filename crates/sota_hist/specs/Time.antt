@@ -1,6 +1,7 @@
 -- The travel time of an arc: which ticks it may take, and the mass of each.
-use Rattle.std.specs.Prelude.{ℕ, ◌<◌, ◌≤◌, max, List, [], ◌∷◌}
-use Rattle.std.specs.List.{sum_by}
+use Rattle.std.specs.Prelude.{ℕ, ◌<◌, ◌≤◌, ◌==◌, nat_le, nat_lt, not, min, max, List, [], ◌∷◌, ◌++◌, map, Option, None, Some}
+use Rattle.std.specs.Option.{option_map_or}
+use Rattle.std.specs.List.{sum_by, filter}
 
 -- pairs of a tick and a mass: the ticks rise from one above `floor`, and each mass is positive
 abbrev pub RisesFrom : ℕ → List (ℕ × ℕ) → Type 0
@@ -24,3 +25,32 @@ least_tick (p ∷ ps) = p.0
 abbrev pub greatest_tick : List (ℕ × ℕ) → ℕ
 greatest_tick [] = 0
 greatest_tick (p ∷ ps) = max p.0 (greatest_tick ps)
+
+-- the ticks, in the order of the pairs
+abbrev pub ticks : List (ℕ × ℕ) → List ℕ
+ticks pairs = map (λ p. p.0) pairs
+
+-- the pairs at ticks of at most t
+abbrev pub within : ℕ → List (ℕ × ℕ) → List (ℕ × ℕ)
+within t pairs = filter (λ p. nat_le p.0 t) pairs
+
+-- the pairs at ticks below t
+abbrev pub before : ℕ → List (ℕ × ℕ) → List (ℕ × ℕ)
+before t pairs = filter (λ p. nat_lt p.0 t) pairs
+
+-- the mass at tick t, 0 where the tick is absent
+abbrev pub mass_at : ℕ → List (ℕ × ℕ) → ℕ
+mass_at t pairs = total (filter (λ p. p.0 == t) pairs)
+
+-- the least number of a list, none where it is empty
+abbrev pub least_of : List ℕ → Option ℕ
+least_of [] = None
+least_of (x ∷ xs) = Some (option_map_or (λ y. min x y) (least_of xs) x)
+
+-- the least tick at which two times have different masses: it is a tick of one of them, since the mass elsewhere is 0 in both
+abbrev pub first_difference : List (ℕ × ℕ) → List (ℕ × ℕ) → Option ℕ
+first_difference one other = least_of (filter (λ t. not (mass_at t one == mass_at t other)) (ticks one ++ ticks other))
+
+-- the first tick whose cumulated mass exceeds the draw
+abbrev pub picked : ℕ → List (ℕ × ℕ) → Option ℕ
+picked draw pairs = least_of (filter (λ t. nat_lt draw (total (within t pairs))) (ticks pairs))

@@ -1,7 +1,13 @@
 // A histogram of one pair needs no allocation of its own, since most arcs of a large network have one.
-ghost use Rattle.std.specs.Prelude.{◌≡◌, ◌≤◌, [], ◌∷◌, IfOk};
-ghost use Rattle.sota_hist.specs.Time.{IsTime, total};
+ghost use Rattle.std.specs.Prelude.{◌≡◌, ◌≤◌, ◌<◌, ◌^◌, ◌↔◌, [], ◌∷◌, length, None, IfErr, IfOk, IfSome, IsNone, OnOk};
+ghost use Rattle.std.specs.List.Sorted.{IsPermutation};
+ghost use Rattle.sota_units.specs.Rounding.{SCALE_LIMIT};
+ghost use Rattle.sota_hist.specs.Time.{IsTime, total, least_tick, greatest_tick, within, before, first_difference, picked};
+ghost use Rattle.sota_hist.specs.Build.{positive, time_of, hist_fault, IsFault};
 
+use crate::HistFault;
+use crate::difference::first_difference_of;
+use crate::sorted::{repeated_tick_of, sorted_pairs, total_of, zero_tick_of};
 use smallvec::SmallVec;
 use sota_units::{Mass, NoMemory, Scale, Tick};
 use std::alloc::Global;
@@ -26,6 +32,39 @@ impl Model for Histogram {
 }
 
 impl Histogram {
+    /// The histogram of these pairs: those of positive mass, in rising ticks. Pairs of mass 0 are dropped, whatever their tick.
+    /// The faults stand in the order of `HistFault`. Linear but for a sort by ticks.
+    pub fn build(
+        alloc: Global,
+        scale: Scale,
+        pairs: &[(Tick, Mass)],
+    ) -> Result<Histogram, HistFault>
+        requires { length pairs.now < 2 ^ 32 }
+        ensures ok { OnOk result (hist_fault scale pairs.now ≡ None) }
+        ensures time { IfOk result (λ time. time ≡ time_of pairs.now) }
+        ensures fault { IfErr result (λ fault. IsFault (hist_fault scale pairs.now) fault) }
+
+        // What `time` says besides: a histogram rises, and has these pairs.
+        ensures pairs { IfOk result (λ time. IsPermutation (positive pairs.now) time) }
+        ensures total { IfOk result (λ time. total time ≡ scale) }
+    {
+        if let Some(place) = zero_tick_of(pairs) {
+            return Err(HistFault::ZeroTick(place));
+        }
+        let sorted = sorted_pairs(alloc, pairs)?;
+        if let Some(tick) = repeated_tick_of(&sorted) {
+            return Err(HistFault::RepeatedTick(tick));
+        }
+        let sum = total_of(&sorted);
+        if sum != u64::from(scale.get()) {
+            return Err(HistFault::Sum(sum));
+        }
+        match SmallVec::from_slice(alloc, &sorted) {
+            Ok(pairs) => Ok(Histogram { pairs }),
+            Err(_) => Err(HistFault::NoMemory),
+        }
+    }
+
     /// All mass at one tick.
     pub fn certain(alloc: Global, scale: Scale, tick: Tick) -> Result<Histogram, NoMemory>
         requires { 1 ≤ tick }
@@ -48,11 +87,118 @@ impl Histogram {
         }
     }
 
-    /// The pairs, in rising ticks.
+    /// The pairs, in rising ticks. There is at least one, and at most one for each mass of the total.
+    #[tactic(auto, using(crate::proofs::Ticks::readings))]
     pub fn pairs(&self) -> &[(Tick, Mass)]
         ensures value { result.now ≡ self.now }
         ensures valid { IsTime result.now }
+        ensures some { 1 ≤ length result.now }
+        ensures few { length result.now ≤ SCALE_LIMIT }
     {
         self.pairs.as_slice()
+    }
+
+    /// The sum of the masses.
+    #[tactic(auto, using(crate::proofs::Ticks::readings))]
+    pub fn total(&self) -> u64
+        ensures value { result ≡ total self.now }
+        ensures positive { 1 ≤ result }
+        ensures within { result ≤ SCALE_LIMIT }
+    {
+        total_of(self.pairs.as_slice())
+    }
+
+    /// The least tick.
+    pub fn least(&self) -> Tick
+        ensures value { result ≡ least_tick self.now }
+        ensures positive { 1 ≤ result }
+    {
+        self.pairs()[0].0
+    }
+
+    /// The greatest tick.
+    pub fn greatest(&self) -> Tick
+        ensures value { result ≡ greatest_tick self.now }
+        ensures positive { 1 ≤ result }
+    {
+        let pairs = self.pairs();
+        pairs[pairs.len() - 1].0
+    }
+
+    /// The pairs at ticks of at most the limit.
+    pub fn within(&self, limit: Tick) -> &[(Tick, Mass)]
+        ensures { result.now ≡ within limit self.now }
+    {
+        let pairs = self.pairs();
+        let end = pairs.partition_point(|pair| pair.0 <= limit);
+        &pairs[..end]
+    }
+
+    /// The least tick at which the masses of both differ, the mass at an absent tick being 0. None exactly where they are equal.
+    pub fn first_difference(&self, other: &Histogram) -> Option<Tick>
+        ensures value { result ≡ first_difference self.now other.now }
+        ensures same { IsNone result ↔ (self.now ≡ other.now) }
+        ensures before { IfSome result (λ tick. before tick self.now ≡ before tick other.now) }
+    {
+        first_difference_of(self.pairs(), other.pairs())
+    }
+
+    /// The first tick whose cumulated mass exceeds the draw. None exactly where the draw is at least the total.
+    pub fn pick(&self, draw: u32) -> Option<Tick>
+        ensures value { result ≡ picked draw self.now }
+        ensures none { IsNone result ↔ (total self.now ≤ draw) }
+    {
+        let mut sum = 0;
+        for pair in self.pairs() {
+            sum += u64::from(pair.1.get());
+            if sum > u64::from(draw) {
+                return Some(pair.0);
+            }
+        }
+        None
+    }
+}
+
+#[cfg(test)]
+mod tests {
+    use crate::{HistFault, Histogram};
+    use sota_units::{Mass, Scale, Tick};
+    use std::test::Fail;
+
+    // Pairs that give no histogram, and one that is built of them in any order and read.
+    #[test]
+    fn over_four(rt: HostRuntime) -> Result<(), Fail> {
+        let alloc = rt.alloc();
+        let four = Scale::new(4).ok_or("a scale")?;
+        let faulty: [(&[(Tick, Mass)], HistFault); 3] = [
+            (
+                &[(Tick(0), Mass(1)), (Tick(2), Mass(3))],
+                HistFault::ZeroTick(0),
+            ),
+            (
+                &[(Tick(2), Mass(1)), (Tick(2), Mass(3))],
+                HistFault::RepeatedTick(Tick(2)),
+            ),
+            (&[(Tick(2), Mass(3))], HistFault::Sum(3)),
+        ];
+        for (pairs, fault) in faulty {
+            assert_eq!(rt; Histogram::build(alloc, four, pairs).err(), Some(fault));
+        }
+        let pairs = [(Tick(5), Mass(1)), (Tick(3), Mass(3)), (Tick(0), Mass(0))];
+        let built = Histogram::build(alloc, four, &pairs)?;
+        assert_eq!(rt;
+            built.pairs(),
+            [(Tick(3), Mass(3)), (Tick(5), Mass(1))].as_slice()
+        );
+        for (draw, tick) in [(2, Some(Tick(3))), (3, Some(Tick(5))), (4, None)] {
+            assert_eq!(rt; built.pick(draw), tick);
+        }
+        assert_eq!(rt; built.total(), 4);
+        assert_eq!(rt; (built.least(), built.greatest()), (Tick(3), Tick(5)));
+        assert_eq!(rt; built.within(Tick(4)), [(Tick(3), Mass(3))].as_slice());
+        assert_eq!(rt; built.first_difference(&built.copy(alloc)?), None);
+        let certain = Histogram::certain(alloc, four, Tick(3))?;
+        assert_eq!(rt; built.first_difference(&certain), Some(Tick(3)));
+        Ok(())
     }
 }

@@ -1,6 +1,10 @@
 //! Travel-time histograms: which ticks a road may take, and the mass of each.
 #![tactic(auto)]
 
+mod difference;
+mod fault;
 mod histogram;
+mod sorted;
 
+pub use fault::HistFault;
 pub use histogram::Histogram;

@@ -14,5 +14,5 @@ pub use heft::Heft;
 pub use ids::{ArcId, Mass, NodeId, Tick};
 pub use no_memory::NoMemory;
 pub use scale::Scale;
-pub use spelling::grain_text;
+pub use spelling::{grain_text, read_grain};
 pub use steps::Steps;

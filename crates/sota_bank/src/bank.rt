@@ -1,0 +1,187 @@
+//! The bank of rows.
+ghost use Rattle.std.specs.Prelude.{◌≡◌, ◌+◌, ◌-◌, ◌^◌, ◌<◌, ◌≤◌, ℕ, List, [], ◌∷◌, ◌++◌, length, take, drop, sum, slice_index, slice_range, IfOk, OnOk, OnErr};
+ghost use Rattle.std.specs.Borrow.{sem};
+ghost use Rattle.sota_bank.specs.Rows.{list_at, cap_at, with_list, lists, capacities, empty_rows, AllWithin, overwritten};
+ghost use Rattle.sota_bank.specs.Layout.{AreEmpty};
+
+use crate::region::Region;
+use sota_units::{NoMemory, Steps};
+use std::alloc::Global;
+use std::marker::Model;
+use std::sync::ledger::Ledger;
+
+/// Where a row lies: its first place, how many of its places are written, and how many it has.
+#[derive(Clone, Copy)]
+struct Extent {
+    start: usize,
+    len: u32,
+    cap: u32,
+}
+
+/// Rows of unequal length in one allocation. A contract sees the list of the rows, each a list with a capacity.
+#[derive(Drop)]
+pub struct RowBank<T> {
+    extents: Vec<Extent>,
+    region: Region<T>,
+}
+
+impl<T> Model for RowBank<T> {
+    ghost use Rattle.std.specs.Prelude.{List};
+    ghost use Rattle.std.specs.Coded.{coded_list};
+    ghost use Rattle.sota_bank.specs.Rows.{Row, row_code};
+
+    ghost Value = { List (Row T) };
+
+    ghost coded = { coded_list (row_code T.code) };
+
+    ghost use Rattle.sota_bank.specs.Layout.{rows_in, IsLaidOut};
+
+    ghost view = { λ b. rows_in b.extents.items b.region };
+
+    ghost invariant = { λ b. IsLaidOut b.extents.items b.region };
+}
+
+/// One extent a capacity, each empty, one after another, and how many places they take together.
+fn empty_extents(alloc: Global, caps: &[u32]) -> Result<(Vec<Extent>, usize), NoMemory>
+    requires { sum caps.now ≤ 2 ^ 31 }
+    ensures { IfOk result (λ r. AreEmpty r.0.items caps.now × (r.1 ≡ sum caps.now)) }
+{
+    let mut extents = Vec::new(alloc);
+    let mut start: usize = 0;
+    for cap in caps {
+        extents.push(Extent {
+            start,
+            len: 0,
+            cap: *cap,
+        })?;
+        start += *cap as usize;
+    }
+    Ok((extents, start))
+}
+
+impl<T: Copy> RowBank<T> {
+    ghost use Rattle.sota_bank.specs.BankLends.{lends_window};
+
+    /// Empty rows with these capacities. It is refused only where there is no memory.
+    pub fn new(alloc: Global, caps: &[u32]) -> Result<RowBank<T>, NoMemory>
+        requires { sum caps.now ≤ 2 ^ 31 }
+        ensures { IfOk result (λ bank. bank ≡ empty_rows caps.now) }
+    {
+        let (extents, places) = empty_extents(alloc, caps)?;
+        let region = Region::new(alloc, places)?;
+        Ok(RowBank { extents, region })
+    }
+
+    /// Moves the list of the row from the other bank to the same row here.
+    fn take_row(&mut self, other: &mut RowBank<T>, row: usize)
+        requires rows { (row < length self.old) × (row < length other.old) }
+        requires room { length (list_at other.old row) ≤ cap_at self.old row }
+        ensures here { self.new ≡ with_list self.old row (list_at other.old row) }
+        ensures there { other.new ≡ with_list other.old row [] }
+    {
+        let from = other.extents[row];
+        let to = self.extents[row];
+        other
+            .region
+            .move_run(from.start, &mut self.region, to.start, from.len as usize);
+        other.extents[row] = Extent { len: 0, ..from };
+        self.extents[row] = Extent {
+            len: from.len,
+            ..to
+        };
+    }
+
+    /// Gives the rows these capacities: all lists move to a new allocation, each in one block copy. Where there is no
+    /// memory all is unchanged.
+    pub fn regrow(&mut self, caps: &[u32]) -> Result<(), NoMemory>
+        requires rows { length caps.now ≡ length self.old }
+        requires room { (row : ℕ) → row < length self.old → length (list_at self.old row) ≤ slice_index caps.now row }
+        requires total { sum caps.now ≤ 2 ^ 31 }
+        ensures lists { OnOk result (lists self.new ≡ lists self.old) }
+        ensures capacities { OnOk result (capacities self.new ≡ caps.now) }
+        ensures unchanged { OnErr result (self.new ≡ self.old) }
+    {
+        let mut grown = RowBank::new(self.region.allocator(), caps)?;
+        for row in 0..caps.len() {
+            grown.take_row(self, row);
+        }
+        *self = grown;
+        Ok(())
+    }
+
+    /// The number of rows.
+    pub fn rows(&self) -> usize
+        ensures rows { result ≡ length self.now }
+        ensures within { AllWithin self.now }
+    {
+        self.extents.len()
+    }
+
+    /// The length of the row's list.
+    pub fn len(&self, row: usize) -> u32
+        requires { row < length self.now }
+        ensures { result ≡ length (list_at self.now row) }
+    {
+        self.extents[row].len
+    }
+
+    /// How many entries the row may have.
+    pub fn cap(&self, row: usize) -> u32
+        requires { row < length self.now }
+        ensures cap { result ≡ cap_at self.now row }
+        ensures within { length (list_at self.now row) ≤ result }
+    {
+        self.extents[row].cap
+    }
+
+    /// The row's whole list.
+    pub fn front(&self, row: usize) -> &[T]
+        requires { row < length self.now }
+        ensures { result.now ≡ list_at self.now row }
+    {
+        let extent = self.extents[row];
+        self.region.slice(extent.start, extent.len as usize)
+    }
+
+    /// The part of the row's list from the index `from` up to `to`, for writing.
+    pub fn window(&mut self, row: usize, from: u32, to: u32) -> &mut [T]
+        requires row { row < length self.old }
+        requires part { (from ≤ to) × (to ≤ length (list_at self.old row)) }
+        ensures* writes_back { sem 𝓛 (lends_window T.row self.entry row from to result) }
+        ensures value { result.now ≡ slice_range (list_at self.old row) from to }
+        // What is written has the length of the window, so it stands there as it is.
+        ensures as_written { (ws : List T) → length ws ≡ to - from → overwritten (list_at self.old row) from to ws ≡ take from (list_at self.old row) ++ (ws ++ drop to (list_at self.old row)) }
+    {
+        let extent = self.extents[row];
+        self.region
+            .slice_mut(extent.start + from as usize, (to - from) as usize)
+    }
+
+    /// Appends an entry to the row, and counts the push.
+    pub fn push<P: Ledger>(&mut self, row: usize, value: T, pushes: &mut Steps<P>)
+        requires row { row < length self.old }
+        requires room { length (list_at self.old row) < cap_at self.old row }
+        ensures rows { self.new ≡ with_list self.old row (list_at self.old row ++ value ∷ []) }
+        ensures count { pushes.new ≡ pushes.old + 1 }
+    {
+        let extent = self.extents[row];
+        self.region.write(extent.start + extent.len as usize, value);
+        self.extents[row] = Extent {
+            len: extent.len + 1,
+            ..extent
+        };
+        pushes.tick();
+    }
+
+    /// Keeps the first `count` entries of the row, or all where there are fewer.
+    pub fn cut(&mut self, row: usize, count: u32)
+        requires { row < length self.old }
+        ensures { self.new ≡ with_list self.old row (take count (list_at self.old row)) }
+    {
+        let extent = self.extents[row];
+        self.extents[row] = Extent {
+            len: extent.len.min(count),
+            ..extent
+        };
+    }
+}

@@ -1,0 +1,7 @@
+pub mod Least
+pub mod Ticks
+pub mod Parting
+pub mod Picking
+pub mod Repeats
+pub mod Order
+pub mod Building
