@@ -1,6 +1,6 @@
 -- Where the inputs are not accepted, the cause of the status.
 use Rattle.std.proofs.Common.{◌≡◌, ℕ, List, Some, Result, Err, refl, sym, ◌∙◌, ap, subst, inl, inr}
-use Rattle.sota_edge.specs.Desk.{DeskState}
+use Rattle.sota_edge.specs.Desk.{Files, DeskState}
 use Rattle.sota_edge.specs.Sink.{SinkState}
 use Rattle.sota_network.specs.Network.{Net}
 use Rattle.sota_app.specs.Said.{AskSaid}
@@ -40,3 +40,9 @@ err_cause said (ends.Refused refusal) result d e s t read written = refused_caus
 err_cause said ends.Unread result d e s t read written =
     subst (λ (status : Status). Cause status (Some (commands.Ask said)) d e s t) (sym written.0) (read.0, written.1, read.1)
 err_cause said ends.NoMemory result d e s t read written = subst (λ (status : Status). Cause status (Some (commands.Ask said)) d e s t) (sym written.0) tt
+
+-- what the desk holds stays
+pub err_kept : {A : Type 0} (end : InputEnd) (name : List ℕ) (said : Files → Result A Outcome) (d e : DeskState) → InputsRead (Err end) name said d e → e.holds ≡ d.holds
+err_kept (ends.Refused refusal) name said d e read = read.0.holds
+err_kept ends.Unread name said d e read = read.1
+err_kept ends.NoMemory name said d e read = read

@@ -55,6 +55,7 @@ fn run_ask<D: Desk, O: Sink>(
 ) -> Status
     ensures cause { Cause result (Some (Command.Ask said.now)) (D.state desk.old) (D.state desk.new) (O.state out.old) (O.state out.new) }
     ensures begun { Told (D.state desk.old) (λ files. WrotePrefix (outcome_of (Some (Command.Ask said.now)) files).text (O.state out.old) (O.state out.new)) }
+    ensures kept { (D.state desk.new).holds ≡ (D.state desk.old).holds }
     ensures network { result ≡ Status.Done → HasNetwork (Some (Command.Ask said.now)) (D.state desk.old) }
 {
     match read_network(alloc, said.graph, said.hists, desk) {
@@ -67,6 +68,7 @@ fn run_ask<D: Desk, O: Sink>(
 fn answer<D: Desk, O: Sink>(alloc: Global, words: &[String], desk: &mut D, out: &mut O) -> Status
     ensures cause { Cause result (command_of (map string_bytes words.now)) (D.state desk.old) (D.state desk.new) (O.state out.old) (O.state out.new) }
     ensures begun { Told (D.state desk.old) (λ files. WrotePrefix (outcome (map string_bytes words.now) files).text (O.state out.old) (O.state out.new)) }
+    ensures kept { (D.state desk.new).holds ≡ (D.state desk.old).holds }
     ensures network { result ≡ Status.Done → HasNetwork (command_of (map string_bytes words.now)) (D.state desk.old) }
 {
     match read_words(words) {
@@ -89,6 +91,9 @@ pub fn run<D: Desk, O: Sink, P: Ledger>(
 
     // Whatever happens, what is written begins the text of the outcome.
     ensures begun { Told (D.state desk.old) (λ files. WrotePrefix (outcome (map string_bytes words.now) files).text (O.state out.old) (O.state out.new)) }
+
+    // No command stores anything.
+    ensures kept { (D.state desk.new).holds ≡ (D.state desk.old).holds }
 
     // Where nothing fails, the whole outcome stands.
     ensures exact { (files : Files) → (D.state desk.old).holds ≡ Some files

@@ -5,7 +5,7 @@ use Rattle.sota_app.specs.Outcome.{outcome_of}
 use Rattle.sota_app.specs.Causes.{Told, Cause}
 use Rattle.sota_app.specs.declared.words.Command.TheVariants as commands
 use Rattle.sota_app.proofs.Begun.{ok_begun, err_begun}
-use Rattle.sota_app.proofs.RefusedInputs.{err_cause}
+use Rattle.sota_app.proofs.RefusedInputs.{err_cause, err_kept}
 use Rattle.sota_app.proofs.top.run_ask.Goals as goal
 
 pub returns-in-Ok-clause-begun : goal.returns-in-Ok-clause-begun
@@ -34,3 +34,6 @@ returns-in-Err-clause-cause g c =
     (err_cause said c.in-Err.end c.reply_end.result
     (g.D.Desk.state c.args.desk.now) (g.D.Desk.state c.read_network.new.desk) (g.O.Sink.state c.args.out.now) (g.O.Sink.state c.reply_end.new.out)
     c.in-Err.ensures.read c.reply_end.ensures)
+
+pub returns-in-Err-clause-kept : goal.returns-in-Err-clause-kept
+returns-in-Err-clause-kept g c = err_kept c.in-Err.end _ _ _ _ c.in-Err.ensures.read
