@@ -165,40 +165,60 @@ mod tests {
     use sota_units::{Mass, Scale, Tick};
     use std::test::Fail;
 
-    // Pairs that give no histogram, and one that is built of them in any order and read.
+    // Pairs that give no histogram over the scale 4.
     #[test]
-    fn over_four(rt: HostRuntime) -> Result<(), Fail> {
-        let alloc = rt.alloc();
+    fn faults(rt: HostRuntime) -> Result<(), Fail> {
         let four = Scale::new(4).ok_or("a scale")?;
-        let faulty: [(&[(Tick, Mass)], HistFault); 3] = [
-            (
-                &[(Tick(0), Mass(1)), (Tick(2), Mass(3))],
-                HistFault::ZeroTick(0),
-            ),
-            (
-                &[(Tick(2), Mass(1)), (Tick(2), Mass(3))],
-                HistFault::RepeatedTick(Tick(2)),
-            ),
-            (&[(Tick(2), Mass(3))], HistFault::Sum(3)),
-        ];
-        for (pairs, fault) in faulty {
-            assert_eq!(rt; Histogram::build(alloc, four, pairs).err(), Some(fault));
-        }
+        let timeless = [(Tick(0), Mass(1)), (Tick(2), Mass(3))];
+        let twice = [(Tick(2), Mass(1)), (Tick(2), Mass(3))];
+        let less = [(Tick(2), Mass(3))];
+        let fault = Histogram::build(rt.alloc(), four, &timeless).err();
+        assert_eq!(rt; fault, Some(HistFault::ZeroTick(0)));
+        let fault = Histogram::build(rt.alloc(), four, &twice).err();
+        assert_eq!(rt; fault, Some(HistFault::RepeatedTick(Tick(2))));
+        let fault = Histogram::build(rt.alloc(), four, &less).err();
+        assert_eq!(rt; fault, Some(HistFault::Sum(3)));
+        Ok(())
+    }
+
+    fn reads(time: &Histogram) -> (u64, Tick, Tick, usize) {
+        (
+            time.total(),
+            time.least(),
+            time.greatest(),
+            time.within(Tick(4)).len(),
+        )
+    }
+
+    fn picks(time: &Histogram) -> (Option<Tick>, Option<Tick>, Option<Tick>) {
+        (time.pick(2), time.pick(3), time.pick(4))
+    }
+
+    // A histogram over the scale 4 that is built of pairs in any order, and what is read of it.
+    #[test]
+    fn built(rt: HostRuntime) -> Result<(), Fail> {
+        let four = Scale::new(4).ok_or("a scale")?;
         let pairs = [(Tick(5), Mass(1)), (Tick(3), Mass(3)), (Tick(0), Mass(0))];
-        let built = Histogram::build(alloc, four, &pairs)?;
-        assert_eq!(rt;
-            built.pairs(),
-            [(Tick(3), Mass(3)), (Tick(5), Mass(1))].as_slice()
-        );
-        for (draw, tick) in [(2, Some(Tick(3))), (3, Some(Tick(5))), (4, None)] {
-            assert_eq!(rt; built.pick(draw), tick);
-        }
-        assert_eq!(rt; built.total(), 4);
-        assert_eq!(rt; (built.least(), built.greatest()), (Tick(3), Tick(5)));
-        assert_eq!(rt; built.within(Tick(4)), [(Tick(3), Mass(3))].as_slice());
-        assert_eq!(rt; built.first_difference(&built.copy(alloc)?), None);
-        let certain = Histogram::certain(alloc, four, Tick(3))?;
-        assert_eq!(rt; built.first_difference(&certain), Some(Tick(3)));
+        let time = Histogram::build(rt.alloc(), four, &pairs)?;
+        assert!(rt; time.pairs() == [(Tick(3), Mass(3)), (Tick(5), Mass(1))].as_slice());
+        assert_eq!(rt; reads(&time), (4, Tick(3), Tick(5), 1));
+        assert_eq!(rt; picks(&time), (Some(Tick(3)), Some(Tick(5)), None));
+        Ok(())
+    }
+
+    // Histograms that are made of others or of one tick.
+    #[test]
+    fn made(rt: HostRuntime) -> Result<(), Fail> {
+        let four = Scale::new(4).ok_or("a scale")?;
+        let certain = Histogram::certain(rt.alloc(), four, Tick(3))
+            .ok()
+            .ok_or("certain")?;
+        let copy = certain.copy(rt.alloc()).ok().ok_or("a copy")?;
+        let other = Histogram::certain(rt.alloc(), four, Tick(5))
+            .ok()
+            .ok_or("certain")?;
+        assert_eq!(rt; copy.first_difference(&certain), None);
+        assert_eq!(rt; copy.first_difference(&other), Some(Tick(3)));
         Ok(())
     }
 }
