@@ -1,8 +1,8 @@
 -- One row of the grid from the rows below it.
-use Rattle.std.proofs.Common.{ℕ, ◌≡◌, ◌-◌, ◌<◌, ◌≤◌, List, get_or, None, refl, sym, ◌∙◌, ap, ◌==◌, if◌then◌else◌}
+use Rattle.std.proofs.Common.{ℕ, ◌≡◌, ◌-◌, ◌≤◌, List, get_or, None, refl, sym, ◌∙◌, ap, ◌==◌, if◌then◌else◌}
 use Rattle.std.specs.List.{All}
 use Rattle.std.proofs.lemmas.List.Elements.{All-weaker}
-use Rattle.sota_units.specs.Rounding.{ONE, floor_by, ceiling_by}
+use Rattle.sota_units.specs.Rounding.{ONE}
 use Rattle.sota_network.specs.Network.{Net, IsNet, IsArc}
 use Rattle.sota_network.specs.Grid.{plain_sum, best_of, best_sum, choice_of, value_from, lo, hi, choice}
 use Rattle.sota_network.specs.Plan.{in_table}

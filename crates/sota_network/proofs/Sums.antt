@@ -25,10 +25,11 @@ weighed-le v w g t floor h (p ∷ ps) r =
     let rest : weighed v t ps ≤ weighed w t ps + total ps * g = weighed-le v w g t p.0 h ps r.2 in
     let whole : total (p ∷ ps) * g ≡ p.1 * g + total ps * g = rw total-cons (omega arith) in
     ⊎_elim
-    (λ out. rw (weighed-out v t p ps out, weighed-out w t p ps out, whole) (omega arith))
-    (λ inside.
-    let one : p.1 * v (t - p.0) ≤ p.1 * (w (t - p.0) + g) =
-    let less : t - p.0 < t = omega arith in mul-le-mul_left p.1 (h (t - p.0) less) in
+    (λ (out : t < p.0). rw (weighed-out v t p ps out, weighed-out w t p ps out, whole) (omega arith))
+    (λ (inside : p.0 ≤ t).
+    let less : t - p.0 < t = omega arith in
+    let le : v (t - p.0) ≤ w (t - p.0) + g = h (t - p.0) less in
+    let one : p.1 * v (t - p.0) ≤ p.1 * (w (t - p.0) + g) = mul-le-mul_left p.1 le in
     rw (weighed-in v t p ps inside, weighed-in w t p ps inside, whole) (omega arith))
     (cases_lt t p.0)
 
@@ -44,8 +45,8 @@ weighed-zero t [] = refl
 weighed-zero t (p ∷ ps) =
     let rest : weighed (λ u. 0) t ps ≡ 0 = weighed-zero t ps in
     ⊎_elim
-    (λ out. rw (weighed-out (λ u. 0) t p ps out) rest)
-    (λ inside. rw (weighed-in (λ u. 0) t p ps inside) (omega arith))
+    (λ (out : t < p.0). rw (weighed-out (λ u. 0) t p ps out) rest)
+    (λ (inside : p.0 ≤ t). rw (weighed-in (λ u. 0) t p ps inside) (omega arith))
     (cases_lt t p.0)
 
 -- the sum of values of at most m

@@ -1,5 +1,5 @@
 -- What the plain planner knows at one budget, before the next.
-use Rattle.std.specs.Prelude.{ℕ, ◌≡◌, ◌-◌, ◌==◌, List, slice_index_or, Option, None, if◌then◌else◌}
+use Rattle.std.specs.Prelude.{ℕ, ◌-◌, ◌==◌, List, slice_index_or, Option, None, if◌then◌else◌}
 use Rattle.sota_units.specs.Rounding.{ONE, floor_by, ceiling_by}
 use Rattle.sota_network.specs.Grid.{plain_sum, best_of, choice_of}
 use Rattle.sota_network.specs.Plan.{in_table}

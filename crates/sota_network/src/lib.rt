@@ -11,3 +11,6 @@ mod plain;
 pub use grid::Grid;
 pub use network::{Arc, Network};
 pub use plain::plain_grid;
+
+#[cfg(test)]
+mod tests;

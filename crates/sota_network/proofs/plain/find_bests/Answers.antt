@@ -1,12 +1,11 @@
 -- After k arcs the entry of each node is the best of the first k.
-use Rattle.std.proofs.Common.{ℕ, ◌≡◌, ◌<◌, ◌≤◌, ◌+◌, ◌-◌, ◌*◌, Bool, true, false, List, [], ◌∷◌, ◌++◌, length, get_or, arith, take, ap, ◌∙◌, sym, refl, subst, set, replicate, Some, None, rules}
+use Rattle.std.proofs.Common.{ℕ, ◌≡◌, ◌<◌, ◌≤◌, ◌+◌, ◌-◌, ◌*◌, true, false, List, [], ◌∷◌, ◌++◌, length, get_or, arith, take, ap, ◌∙◌, sym, subst, set, replicate, Some, rules}
 use Rattle.std.specs.List.{All}
 use Rattle.std.specs.Ordering.{is_lt, nat_cmp}
 use Rattle.std.proofs.lemmas.Bool.Decides.{nat_tests}
 use Rattle.std.proofs.lemmas.List.{take_more, length-take-le, set-get_or}
 use Rattle.std.proofs.lemmas.List.Elements.{All-more}
 use Rattle.sota_units.specs.Rounding.{ONE}
-use Rattle.sota_hist.specs.Time.{total}
 use Rattle.sota_network.specs.Network.{Net, IsArc}
 use Rattle.sota_network.specs.Grid.{best_of, choice_of}
 use Rattle.sota_network.specs.Bests.{table_sum, bests_of, no_best}

@@ -1,5 +1,5 @@
 -- Each row of the tables is that of the grid, since the rows below it are.
-use Rattle.std.proofs.Common.{ℕ, ◌≡◌, ◌+◌, ◌++◌, List, length, None, sym, ap, ◌∙◌, subst}
+use Rattle.std.proofs.Common.{ℕ, ◌≡◌, ◌++◌, List, length, None, ap, ◌∙◌}
 use Rattle.sota_network.specs.Network.{Net}
 use Rattle.sota_network.specs.Grid.{lo, hi, choice}
 use Rattle.sota_network.specs.Numbers.{listed}
@@ -7,7 +7,7 @@ use Rattle.sota_network.specs.Bests.{table_sum, bests_of, settled, chosen}
 use Rattle.sota_network.specs.declared.plain.Best.{Best}
 use Rattle.sota_network.specs.declared.plain.Rounding.TheVariants.{Down, Up}
 use Rattle.sota_network.proofs.Bests.{length-bests}
-use Rattle.sota_network.proofs.Tables.{Filled, filled-more}
+use Rattle.sota_network.proofs.Tables.{filled-more}
 use Rattle.sota_network.proofs.Fill.{lower-is, upper-is, chosen-is}
 use Rattle.sota_network.proofs.plain.plain_grid.Goals as goal
 

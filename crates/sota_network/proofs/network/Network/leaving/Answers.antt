@@ -1,4 +1,4 @@
-use Rattle.std.proofs.Common.{ℕ, ◌≡◌, ◌-◌, ◌≤◌, List, [], length, get_or, map, sym, ◌∙◌, ap, arith, ◌==◌}
+use Rattle.std.proofs.Common.{ℕ, ◌≡◌, ◌-◌, List, [], length, get_or, map, ◌∙◌, ap, arith, ◌==◌}
 use Rattle.sota_network.specs.Network.{Net}
 use Rattle.sota_network.specs.Numbers.{numbers}
 use Rattle.sota_network.specs.declared.network.Arc.{Arc}
