@@ -74,7 +74,7 @@ def main():
     words.add_argument("--sota", default=BUILT)
     words.add_argument("--make", nargs=2, metavar=("SIDE", "FOLDER"))
     words.add_argument("--width", type=int, default=0, help="histograms of this many ticks; 0: certain times")
-    words.add_argument("--sides", type=int, nargs="*", default=[100, 320, 500, 1000])
+    words.add_argument("--sides", type=int, nargs="*", default=[100, 320, 500, 900])
     words.add_argument("--budgets", type=int, nargs="*", default=[0, 30])
     given = words.parse_args()
     if given.make:
