@@ -231,12 +231,12 @@ fn faults_of_the_outside(rt: HostRuntime) -> Result<(), Fail> {
     assert!(rt; run_line(alloc, line, &mut desk, &mut out)? == Status::Done);
     assert!(rt; out.written() == reply);
     // Of a sink that takes one byte at a time, a put fails.
-    for fails in [1u32, 2, 9, 56] {
+    for fails in [1u32, 2, 9, 57] {
         let mut out = MemorySink::new(alloc, 1, [fails].to_vec(alloc)?);
         assert!(rt; run_line(alloc, line, &mut desk, &mut out)? == Status::WriteFault);
         assert!(rt; out.written().len() + 1 == fails as usize && reply.starts_with(out.written()));
     }
-    let mut out = MemorySink::new(alloc, 1, [57].to_vec(alloc)?);
+    let mut out = MemorySink::new(alloc, 1, [58].to_vec(alloc)?);
     assert!(rt; run_line(alloc, line, &mut desk, &mut out)? == Status::Done);
     assert!(rt; out.written() == reply);
     Ok(())
