@@ -1,5 +1,6 @@
 // The head of a policy.
-ghost use Rattle.std.specs.Prelude.{◌≡◌};
+ghost use Rattle.std.specs.Prelude.{◌≡◌, IsTrue};
+ghost use Rattle.sota_polfile.specs.Table.{IsHead};
 ghost use Rattle.sota_polfile.specs.Faults.{is_head};
 
 /// Whose policy it is: numbers of nodes are from 1 to `nodes`.
@@ -24,8 +25,10 @@ impl PolicyHead {
 
     const SCALE_LIMIT: u32 = 1_000_000_000;
 
+    #[tactic(auto, using(crate::proofs::Rules::head_fits))]
     pub(crate) fn is_in_range(&self) -> bool
-        ensures { result ≡ is_head self.now }
+        ensures value { result ≡ is_head self.now }
+        ensures valid { IsTrue result → IsHead self.now }
     {
         (1..=Self::NODE_LIMIT).contains(&self.nodes)
             && (1..=self.nodes).contains(&self.dest)

@@ -1,10 +1,10 @@
 // The rows of a policy.
 ghost use Rattle.std.specs.Prelude.{◌≡◌, All};
 ghost use Rattle.sota_polfile.specs.Entry.{IsEntry};
-ghost use Rattle.sota_polfile.specs.Table.{row_head};
+ghost use Rattle.sota_polfile.specs.Table.{row_head, entry_for};
 ghost use Rattle.sota_polfile.specs.Faults.{is_row_head, is_unordered, numbers_fault};
 
-use crate::{PolicyEntries, PolicyFault, PolicyHead};
+use crate::{PolicyEntries, PolicyEntry, PolicyFault, PolicyHead};
 
 /// The entries of a node, for the budgets `first`, `first + 1` and so on.
 #[derive(Drop)]
@@ -26,6 +26,17 @@ pub struct RowHead {
 }
 
 impl PolicyRow {
+    /// The entry for this budget. None exactly where the row has none.
+    pub fn entry(&self, budget: u32) -> Option<PolicyEntry>
+        ensures { result ≡ entry_for self.now budget }
+    {
+        if budget < self.first {
+            return None;
+        }
+        let place = (budget - self.first) as usize;
+        self.entries.as_slice().get(place).copied()
+    }
+
     pub(crate) fn numbers(&self) -> RowHead
         ensures value { result ≡ row_head self.now }
         ensures entries { All IsEntry self.now.entries }

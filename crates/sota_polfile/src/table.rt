@@ -1,7 +1,10 @@
 // A policy in memory.
-ghost use Rattle.std.specs.Prelude.{◌≡◌, ◌↔◌, All, map, IsOk, IfOk, IfErr, IfNone, None, Some};
+ghost use Rattle.std.specs.Prelude.{◌≡◌, ◌==◌, ◌*◌, ◌<◌, ◌≤◌, ◌↔◌, All, length, slice_get, map, IsOk, IfOk, IfErr, OnErr, IfNone, None, Some};
+ghost use Rattle.std.specs.Option.{option_copied};
+ghost use Rattle.std.specs.List.{find};
+ghost use Rattle.std.specs.List.Sorted.{IsStrictlyIncreasing};
 ghost use Rattle.sota_polfile.specs.Entry.{IsEntry};
-ghost use Rattle.sota_polfile.specs.Table.{Table, IsHead, IsTable, row_head, cells, entry_of};
+ghost use Rattle.sota_polfile.specs.Table.{Table, IsHead, IsTable, row_head, nodes, cells, entry_of};
 ghost use Rattle.sota_polfile.specs.Faults.{rows_fault, parts_fault};
 
 use crate::{PolicyEntry, PolicyFault, PolicyHead, PolicyRow};
@@ -26,6 +29,7 @@ impl Model for PolicyTable {
 
 /// The fault of the first row that has one.
 fn rows_fault(head: &PolicyHead, rows: &[PolicyRow]) -> Option<PolicyFault>
+    requires { IsHead head.now }
     ensures value { result ≡ rows_fault head.now None 1 (map row_head rows.now) }
     ensures entries { IfNone result (All (λ row. All IsEntry row.entries) rows.now) }
 {
@@ -67,19 +71,23 @@ impl PolicyTable {
     }
 
     /// The rows, in rising nodes.
+    #[tactic(auto, using(crate::proofs::Parts::table_bound))]
     pub fn rows(&self) -> &[PolicyRow]
         ensures value { result.now ≡ self.now.rows }
         ensures valid { IsTable self.now }
+        ensures few { length self.now.rows ≤ self.now.head.nodes }
     {
         self.rows.as_slice()
     }
 
     /// The number of entries.
+    #[tactic(auto, using(crate::proofs::Parts::cells_bound))]
     pub fn cells(&self) -> u64
-        ensures { result ≡ cells self.now }
+        ensures value { result ≡ cells self.now }
+        ensures within { cells self.now ≤ 65536 * length self.now.rows }
     {
         let mut count = 0;
-        for row in &self.rows {
+        for row in self.rows() {
             count += row.entries.len() as u64;
         }
         count
@@ -89,13 +97,25 @@ impl PolicyTable {
     pub fn entry(&self, node: u32, budget: u32) -> Option<PolicyEntry>
         ensures { result ≡ entry_of self.now node budget }
     {
-        let row = self.row(node)?;
-        let place = budget.checked_sub(row.first)?;
-        row.entries.as_slice().get(place as usize).copied()
+        self.row(node).and_then(|row| row.entry(budget))
     }
 
-    fn row(&self, node: u32) -> Option<&PolicyRow> {
-        let place = self.rows.binary_search_by_key(&node, |row| row.node).ok()?;
-        self.rows.get(place)
+    fn row(&self, node: u32) -> Option<&PolicyRow>
+        ensures { option_copied result ≡ find (λ row. row.node == node) self.now.rows }
+    {
+        match place(&self.rows, node) {
+            Ok(place) => Some(&self.rows[place]),
+            Err(_) => None,
+        }
     }
+}
+
+/// The place of the row of a node among rows in rising nodes, or else where such a row would stand.
+fn place(rows: &[PolicyRow], node: u32) -> Result<usize, usize>
+    requires { IsStrictlyIncreasing (nodes rows.now) }
+    ensures within { IfOk result (λ place. place < length rows.now) }
+    ensures found { IfOk result (λ place. find (λ row. row.node == node) rows.now ≡ slice_get rows.now place) }
+    ensures absent { OnErr result (find (λ row. row.node == node) rows.now ≡ None) }
+{
+    rows.binary_search_by_key(&node, |row| row.node)
 }
