@@ -4,3 +4,4 @@ pub mod Search
 pub mod Numbers
 pub mod Entries
 pub mod Rows
+pub mod Files
