@@ -5,3 +5,5 @@ pub mod Numbers
 pub mod Entries
 pub mod Rows
 pub mod Files
+pub mod Cuts
+pub mod Replies

@@ -1,12 +1,14 @@
 -- Rows that were spelled in a file stand there without fault, and rows without fault are what they spell.
 use Rattle.std.proofs.Common.{◌≡◌, ℕ, zero, suc, ◌+◌, ◌-◌, ◌*◌, ◌/◌, ◌^◌, ◌≤◌, ◌<◌, Bool, true, false, List, [], ◌∷◌, ◌++◌, length, drop, map, Option, Some, None, All, refl, sym, ap, ◌∙◌, subst, append_assoc, add-one, ltb, arith}
-use Rattle.std.specs.List.{flat_map, range_with_len, AllByRecursion}
+use Rattle.std.specs.List.{flat_map, sum_by, range_with_len, AllByRecursion}
 use Rattle.std.specs.Int.{w32, to_be_bytes}
-use Rattle.std.proofs.lemmas.Bool.{le-ltb, ltb-false}
+use Rattle.std.proofs.lemmas.Bool.{lt-ltb, le-ltb, ltb-false}
 use Rattle.std.proofs.lemmas.List.{length-append}
+use Rattle.std.proofs.lemmas.List.Sums.{sum_by-cons}
 use Rattle.std.proofs.lemmas.List.Elements.{All-from_recursion, recursion_from_All}
 use Rattle.std.proofs.lemmas.List.FromFn.{length-map-range_with_len}
 use Rattle.sota_polfile.specs.declared.entry.PolicyEntry.{PolicyEntry}
+use Rattle.sota_polfile.specs.declared.fault.PolicyFault.{PolicyFault}
 use Rattle.sota_polfile.specs.declared.fault.PolicyFault.TheVariants.{Truncated}
 use Rattle.sota_polfile.specs.declared.head.PolicyHead.{PolicyHead}
 use Rattle.sota_polfile.specs.declared.row.PolicyRow.{PolicyRow}
@@ -18,7 +20,7 @@ use Rattle.sota_polfile.specs.Places.{number_at, head_at, row_head_at, entries_a
 use Rattle.sota_polfile.specs.Faults.{is_unordered, row_fault_at, row_fault, file_rows_fault, numbers_fault}
 use Rattle.sota_polfile.proofs.Numbers.{IsBytes, wide32, moved, room, number_again, number_takes, number_below}
 use Rattle.sota_polfile.proofs.Entries.{length-entries, entries_again, entries_take}
-use Rattle.sota_polfile.proofs.Rules.{Rises, first_of_passed, first_of_one, test_failed, none_first, numbers_fit, fit_numbers}
+use Rattle.sota_polfile.proofs.Rules.{Rises, first_of_found, test_failed, none_first, numbers_fit, fit_numbers}
 
 -- the numbers of a row have four bytes each
 pub record Fits (row : RowHead) : Type 0 where
@@ -109,6 +111,28 @@ no_fault bytes head at before number row is up fits within =
     let good : numbers_fault head before number (row_head_at bytes at) ≡ None = rw is (fit_numbers head before number row up fits) in
     rw (whole, good, entries) refl
 
+-- the bytes end inside a row head
+pub in_row_head : (bytes : List ℕ) (head : PolicyHead) (at : ℕ) (before : Option ℕ) (number : ℕ) → length bytes < at + 12 → row_fault_at bytes head at before number ≡ Some (Truncated at)
+unfolding row_fault_at
+in_row_head bytes head at before number short = first_of_found _ (Truncated at) _ (lt-ltb _ _ short)
+
+-- the bytes end inside an entry
+pub in_entries : (bytes : List ℕ) (head : PolicyHead) (at : ℕ) (before : Option ℕ) (number : ℕ) (row : RowHead) → row_head_at bytes at ≡ row → numbers_fault head before number row ≡ None → at + 12 ≤ length bytes → length bytes < at + 12 + 12 * row.count → row_fault_at bytes head at before number ≡ Some (Truncated (at + 12 + 12 * ((length bytes - (at + 12)) / 12)))
+unfolding row_fault_at
+in_entries bytes head at before number row is good whole short =
+    let long : ltb (length bytes) (at + 12) ≡ false = le-ltb _ _ whole in
+    let count : (row_head_at bytes at).count ≡ row.count = ap (λ (r : RowHead). r.count) is in
+    let cut : ltb (length bytes) (at + 12 + 12 * (row_head_at bytes at).count) ≡ true = lt-ltb _ _ (rw count short) in
+    let fine : numbers_fault head before number (row_head_at bytes at) ≡ None = rw is good in
+    rw (long, fine, cut) refl
+
+-- the numbers of a whole row head are at fault
+pub in_numbers : (bytes : List ℕ) (head : PolicyHead) (at : ℕ) (before : Option ℕ) (number : ℕ) (fault : PolicyFault) → numbers_fault head before number (row_head_at bytes at) ≡ Some fault → at + 12 ≤ length bytes → row_fault_at bytes head at before number ≡ Some fault
+unfolding row_fault_at
+in_numbers bytes head at before number fault found whole =
+    let long : ltb (length bytes) (at + 12) ≡ false = le-ltb _ _ whole in
+    rw (long, found) refl
+
 -- what a row without fault keeps to
 pub record Passes (bytes : List ℕ) (head : PolicyHead) (at : ℕ) (before : Option ℕ) : Type 0 where
   pub up : is_unordered before (row_head_at bytes at).node ≡ false
@@ -125,11 +149,11 @@ passes bytes head at before number e =
     let fits = numbers_fit head before number row good.0 in
     record { up = fits.0; fits = fits.1; within = ltb-false _ _ entries.0 }
 
-start_after : (bytes : List ℕ) (k : ℕ) → start bytes (k + 1) ≡ start bytes k + 12 + 12 * (row_head_at bytes (start bytes k)).count
+pub start_after : (bytes : List ℕ) (k : ℕ) → start bytes (k + 1) ≡ start bytes k + 12 + 12 * (row_head_at bytes (start bytes k)).count
 unfolding start
 start_after bytes k = rw add-one refl
 
-node_before_after : (bytes : List ℕ) (k : ℕ) → node_before bytes (k + 1) ≡ Some (row_head_at bytes (start bytes k)).node
+pub node_before_after : (bytes : List ℕ) (k : ℕ) → node_before bytes (k + 1) ≡ Some (row_head_at bytes (start bytes k)).node
 unfolding node_before
 node_before_after bytes k = rw add-one refl
 
@@ -194,3 +218,8 @@ rows_take bytes k (suc n) fits within none =
       are = (record { numbers = rw count here.fits; entries = All-from_recursion IsEntry row.entries one.1 }, others.are);
       up = (here.up, rw before at others.up);
     }
+
+-- the length of rows
+pub length-rows : (rows : List PolicyRow) → length (flat_map spelled_row rows) ≡ 12 * length rows + 12 * sum_by (λ row. length row.entries) rows
+length-rows [] = refl
+length-rows (row ∷ rows) = rw (sum_by-cons (λ (r : PolicyRow). length r.entries) row rows) (omega (arith, length-append (spelled_row row) (flat_map spelled_row rows), length-row row, length-rows rows))

@@ -96,7 +96,13 @@ policy_of bytes = or_fault (first_fault bytes) (table_at bytes)
 abbrev pub cut_of : ℕ → PolicyFault
 cut_of len = if nat_lt len 8 then Magic else (if nat_lt len 32 then Truncated 0 else Truncated (32 + 12 * ((len - 32) / 12)))
 
--- A call answers so, but that want of memory may take the place of each answer.
+-- A call answers this fault, where there is one. Want of memory may take the place of each answer.
+abbrev pub Answers : {T : Type 0} → Result T PolicyFault → Option PolicyFault → Type 0
+Answers (Ok value) found = found ≡ None
+Answers (Err NoMemory) found = Unit {0}
+Answers (Err fault) found = found ≡ Some fault
+
+-- A call answers so, but for want of memory.
 abbrev pub Gives : {T : Type 0} → Result T PolicyFault → Result T PolicyFault → Type 0
 Gives (Ok value) answer = answer ≡ Ok value
 Gives (Err NoMemory) answer = Unit {0}

@@ -22,6 +22,12 @@ pub fn cut_fault(table: &PolicyTable, length: u64) -> PolicyFault
     ensures no_file { (other : Table) → IsTable other → take length (spelling table.now) ≢ spelling other }
 {
     let _head = table.head();
+    cut(length)
+}
+
+fn cut(length: u64) -> PolicyFault
+    ensures { result ≡ cut_of length }
+{
     if length < 8 {
         PolicyFault::Magic
     } else if length < 32 {

@@ -3,9 +3,8 @@ ghost use Rattle.std.specs.Prelude.{◌≡◌, ◌+◌, ◌*◌, ◌≤◌, leng
 ghost use Rattle.sota_polfile.specs.Table.{Table, IsTable};
 ghost use Rattle.sota_polfile.specs.Spelling.{spelling};
 ghost use Rattle.sota_polfile.specs.Places.{head_at, entries_at, row_at, rows_at, start};
-ghost use Rattle.sota_polfile.specs.Faults.{row_fault_at, file_rows_fault, policy_of, or_fault, Gives};
+ghost use Rattle.sota_polfile.specs.Faults.{row_fault_at, file_rows_fault, policy_of, or_fault, Answers, Gives};
 
-use crate::row::RowHead;
 use crate::{PolicyEntries, PolicyEntry, PolicyFault, PolicyHead, PolicyRow, PolicyTable, places};
 use std::alloc::{AllocError, Global};
 
@@ -50,18 +49,18 @@ fn read_row(
     if left < ROW_HEAD {
         return Err(PolicyFault::Truncated(at as u64));
     }
-    let RowHead { node, first, count } = places::row_head_at(bytes, at);
-    if let Some(fault) = (RowHead { node, first, count }).fault(head, before, number) {
+    let row = places::row_head_at(bytes, at);
+    if let Some(fault) = row.fault(head, before, number) {
         return Err(fault);
     }
     let whole = (left - ROW_HEAD) / ENTRY;
-    if (whole as u64) < count {
+    if (whole as u64) < row.count {
         return Err(PolicyFault::Truncated((at + ROW_HEAD + ENTRY * whole) as u64));
     }
-    let entries = entries_at(alloc, bytes, at + ROW_HEAD, count as usize)?;
+    let entries = entries_at(alloc, bytes, at + ROW_HEAD, row.count as usize)?;
     Ok(PolicyRow {
-        node,
-        first,
+        node: row.node,
+        first: row.first,
         entries: PolicyEntries::new(entries),
     })
 }
@@ -75,7 +74,9 @@ fn read_rows(
 ) -> Result<(Vec<PolicyRow>, usize), PolicyFault>
     requires head { head.now ≡ head_at bytes.now }
     requires whole { 32 ≤ length bytes.now }
-    ensures { IfOk result (λ read. read.1 ≡ start bytes.now count) }
+    ensures rows { IfOk result (λ read. read.0.items ≡ rows_at bytes.now 0 count) }
+    ensures end { IfOk result (λ read. (read.1 ≡ start bytes.now count) × (read.1 ≤ length bytes.now)) }
+    ensures fault { Answers result (file_rows_fault bytes.now 0 count) }
 {
     let mut rows = Vec::new(alloc);
     let mut at = HEAD;

@@ -59,8 +59,8 @@ fn put_row(out: &mut Vec<u8>, row: &PolicyRow) -> Result<(), AllocError>
 pub fn write_policy(alloc: Global, table: &PolicyTable) -> Result<Vec<u8>, NoMemory>
     ensures spelled { IfOk result (λ bytes. bytes.items ≡ spelling table.now) }
     // What is written is read as that table.
-    ensures read { policy_of (spelling table.now) ≡ Ok table.now }
-    ensures len { length (spelling table.now) ≡ 32 + 12 * length table.now.rows + 12 * cells table.now }
+    ensures read { IfOk result (λ bytes. policy_of bytes.items ≡ Ok table.now) }
+    ensures len { IfOk result (λ bytes. length bytes.items ≡ 32 + 12 * length table.now.rows + 12 * cells table.now) }
 {
     let rows = table.rows();
     let mut out = Vec::with_capacity(alloc, 32 + 12 * rows.len() + 12 * table.cells() as usize)?;
