@@ -1,11 +1,12 @@
 -- A spelling is without fault and says its table, and bytes without fault are the spelling of what they say.
-use Rattle.std.proofs.Common.{◌≡◌, ℕ, zero, suc, ◌+◌, ◌-◌, ◌*◌, ◌^◌, ◌≤◌, ◌<◌, Bool, true, false, not, ltb, List, [], ◌∷◌, ◌++◌, length, get_or, take, drop, map, Option, Some, None, Result, Ok, Err, All, refl, sym, ap, ◌∙◌, subst, append_assoc, inl, inr, arith}
+use Rattle.std.proofs.Common.{◌≡◌, ℕ, ◌+◌, ◌*◌, ◌^◌, ◌≤◌, ◌<◌, Bool, true, false, not, ltb, List, [], ◌∷◌, ◌++◌, length, take, drop, Some, None, Result, Ok, Err, IfOk, All, refl, sym, ap, ◌∙◌, subst, inl, inr, arith}
 use Rattle.std.specs.Prelude.{nat_eq}
-use Rattle.std.specs.List.{flat_map, range_with_len, starts_with}
+use Rattle.std.specs.List.{flat_map, starts_with}
 use Rattle.std.specs.Int.{w32, to_be_bytes}
+use Rattle.std.specs.Result.{result_err}
 use Rattle.std.specs.Cmp.Lexicographic.{same_text}
-use Rattle.std.proofs.lemmas.Bool.{le-ltb, ltb-false, not_from_true}
-use Rattle.std.proofs.lemmas.List.{append-nil, take-append-drop, length-append, length-drop, drop_all, nil_from_length, get_or_past}
+use Rattle.std.proofs.lemmas.Bool.{lt-ltb, le-ltb, ltb-false, not_from_true, not_from_false}
+use Rattle.std.proofs.lemmas.List.{append-nil, take-append-drop, length-append, length-drop, drop_all, get_or_past}
 use Rattle.std.proofs.lemmas.List.Elements.{All-from_recursion, recursion_from_All, All-get_or}
 use Rattle.std.proofs.lemmas.List.FromFn.{length-map-range_with_len}
 use Rattle.std.proofs.lemmas.Bool.{cases_lt}
@@ -13,14 +14,15 @@ use Rattle.sota_polfile.specs.declared.fault.PolicyFault.{PolicyFault}
 use Rattle.sota_polfile.specs.declared.fault.PolicyFault.TheVariants.{Magic, Truncated, Range, Trailing}
 use Rattle.sota_polfile.specs.declared.head.PolicyHead.{PolicyHead}
 use Rattle.sota_polfile.specs.declared.row.PolicyRow.{PolicyRow}
-use Rattle.sota_polfile.specs.Table.{Table, IsHead, IsRow, IsTable, nodes}
+use Rattle.sota_polfile.specs.Table.{Table, IsHead, IsRow, IsTable, nodes, cells}
 use Rattle.sota_polfile.specs.Spelling.{magic, numbers, spelled_head, spelled_row, spelling}
 use Rattle.sota_polfile.specs.Places.{number_at, head_at, row_count, start, node_before, rows_at, table_at}
-use Rattle.sota_polfile.specs.Faults.{is_head, fault_if, first_of, file_rows_fault, first_fault, or_fault, policy_of}
+use Rattle.sota_polfile.specs.Faults.{is_head, file_rows_fault, first_fault, policy_of, Gives}
 use Rattle.sota_polfile.proofs.Numbers.{IsBytes, wide32, number_again, number_takes}
-use Rattle.sota_polfile.proofs.Rules.{head_fits, fit_head, test_failed, none_first, Rises, increasing}
+use Rattle.sota_polfile.proofs.Rules.{head_fits, fit_head, first_of_found, test_failed, none_first, increasing}
 use Rattle.sota_polfile.proofs.Parts.{table_rows, table_bound}
-use Rattle.sota_polfile.proofs.Rows.{rows_again, rows_take}
+use Rattle.sota_polfile.proofs.Rows.{rows_again, rows_take, length-rows}
+use Rattle.sota_polfile.proofs.Replies.{or_fault_ok, refused, faultless}
 
 not_false : (b : Bool) → not b ≡ false → b ≡ true
 not_false true e = refl
@@ -59,7 +61,55 @@ none_clean bytes e =
       ends = ltb-false _ _ ends.0;
     }
 
+-- ---- each fault
+
+pub not_magic : (bytes : List ℕ) → starts_with nat_eq bytes magic ≡ false → first_fault bytes ≡ Some Magic
+unfolding first_fault
+not_magic bytes begins = first_of_found _ Magic _ (not_from_false _ begins)
+
+pub short_head : (bytes : List ℕ) → starts_with nat_eq bytes magic ≡ true → length bytes < 32 → first_fault bytes ≡ Some (Truncated 0)
+unfolding first_fault
+short_head bytes begins short =
+    let passed = not_from_true _ begins in
+    let cut : ltb (length bytes) 32 ≡ true = lt-ltb _ _ short in
+    rw (passed, cut) refl
+
+pub bad_head : (bytes : List ℕ) → starts_with nat_eq bytes magic ≡ true → 32 ≤ length bytes → is_head (head_at bytes) ≡ false → first_fault bytes ≡ Some (Range 0)
+unfolding first_fault
+bad_head bytes begins long head =
+    let passed = not_from_true _ begins in
+    let whole : ltb (length bytes) 32 ≡ false = le-ltb _ _ long in
+    let bad = not_from_false _ head in
+    rw (passed, whole, bad) refl
+
+pub bad_rows : (bytes : List ℕ) (fault : PolicyFault) → starts_with nat_eq bytes magic ≡ true → 32 ≤ length bytes → is_head (head_at bytes) ≡ true → file_rows_fault bytes 0 (row_count bytes) ≡ Some fault → first_fault bytes ≡ Some fault
+unfolding first_fault
+bad_rows bytes fault begins long head found =
+    let passed = not_from_true _ begins in
+    let whole : ltb (length bytes) 32 ≡ false = le-ltb _ _ long in
+    let good = not_from_true _ head in
+    rw (passed, whole, good, found) refl
+
+pub more_bytes : (bytes : List ℕ) → starts_with nat_eq bytes magic ≡ true → 32 ≤ length bytes → is_head (head_at bytes) ≡ true → file_rows_fault bytes 0 (row_count bytes) ≡ None → start bytes (row_count bytes) < length bytes → first_fault bytes ≡ Some (Trailing (start bytes (row_count bytes)))
+unfolding first_fault
+more_bytes bytes begins long head rows past =
+    let passed = not_from_true _ begins in
+    let whole : ltb (length bytes) 32 ≡ false = le-ltb _ _ long in
+    let good = not_from_true _ head in
+    let trailing : ltb (start bytes (row_count bytes)) (length bytes) ≡ true = lt-ltb _ _ past in
+    rw (passed, whole, good, rows, trailing) refl
+
 -- ---- what is spelled is read
+
+pub length-head : (head : PolicyHead) (count : ℕ) → length (spelled_head head count) ≡ 32
+unfolding spelled_head
+length-head head count = refl
+
+pub length-spelling : (table : Table) → length (spelling table) ≡ 32 + 12 * length table.rows + 12 * cells table
+unfolding spelling
+length-spelling table =
+    let front = spelled_head table.head (length table.rows) in
+    omega (arith, length-append front (flat_map spelled_row table.rows), length-head table.head (length table.rows), length-rows table.rows)
 
 -- a head that was spelled
 pub record HeadStands (bytes rest : List ℕ) (is : PolicyHead) (count : ℕ) : Type 0 where
@@ -123,10 +173,6 @@ read_again table is =
 
 -- ---- what is read was spelled
 
-or_fault_ok : {T : Type 0} (fault : Option PolicyFault) (value other : T) → or_fault fault value ≡ Ok other → (fault ≡ None) × (value ≡ other)
-or_fault_ok None value other e = (refl, cc)
-or_fault_ok (Some fault) value other e = absurd cc
-
 head_text : (bytes : List ℕ) → IsBytes bytes → starts_with nat_eq bytes magic ≡ true → 32 ≤ length bytes → bytes ≡ spelled_head (head_at bytes) (row_count bytes) ++ drop 32 bytes
 unfolding spelled_head
 head_text bytes fits begins long =
@@ -153,18 +199,24 @@ clean_spelled bytes fits clean =
     let zero_more : 0 + n ≡ n = omega arith in
     let none : drop (start bytes (0 + n)) bytes ≡ [] = rw zero_more (drop_all (start bytes n) bytes clean.ends) in
     let rows : drop 32 bytes ≡ flat_map spelled_row (rows_at bytes 0 n) = all.text ∙ ap (λ (t : List ℕ). flat_map spelled_row (rows_at bytes 0 n) ++ t) none ∙ append-nil (flat_map spelled_row (rows_at bytes 0 n)) in
-    let count : length (rows_at bytes 0 n) ≡ n = length-map-range_with_len _ 0 n in
-    (record {
-      head = head_fits (head_at bytes) clean.head;
-      rows = All-from_recursion (IsRow (head_at bytes)) (rows_at bytes 0 n) all.are;
-      rising = increasing None (nodes (rows_at bytes 0 n)) all.up;
-    }, rw count (head ∙ ap (λ (t : List ℕ). spelled_head (head_at bytes) n ++ t) rows))
+    let count : length (rows_at bytes 0 n) ≡ n = length-map-range_with_len _ 0 n in (
+      record {
+        head = head_fits (head_at bytes) clean.head;
+        rows = All-from_recursion (IsRow (head_at bytes)) (rows_at bytes 0 n) all.are;
+        rising = increasing None (nodes (rows_at bytes 0 n)) all.up;
+      },
+      rw count (head ∙ ap (λ (t : List ℕ). spelled_head (head_at bytes) n ++ t) rows),
+    )
 
 pub read_spelled : (bytes : List ℕ) (table : Table) → IsBytes bytes → policy_of bytes ≡ Ok table → IsTable table × (bytes ≡ spelling table)
 unfolding policy_of
 read_spelled bytes table fits e =
     let p = or_fault_ok (first_fault bytes) (table_at bytes) table e in
     rw p.1 at (clean_spelled bytes fits (none_clean bytes p.0))
+
+pub reads_spelled : (bytes : List ℕ) (r : Result Table PolicyFault) → IsBytes bytes → Gives r (policy_of bytes) → IfOk r (λ table. IsTable table × (bytes ≡ spelling table))
+reads_spelled bytes (Ok table) fits given = read_spelled bytes table fits given
+reads_spelled bytes (Err fault) fits given = tt
 
 -- from the fact that clauses have
 pub IsBytes-from_all : (bytes : List ℕ) → All (λ byte. byte < 256) bytes → IsBytes bytes
@@ -173,3 +225,35 @@ IsBytes-from_all bytes h i =
       | inl lt ↦ All-get_or (λ byte. byte < 256) bytes i 0 lt h
       | inr le ↦ rw (get_or_past bytes i 0 le) (omega arith)
     ]
+
+-- ---- what a reader has found
+
+pub policy_refused : (bytes : List ℕ) (fault : PolicyFault) → first_fault bytes ≡ Some fault → result_err (policy_of bytes) ≡ Some fault
+unfolding policy_of
+policy_refused bytes fault e = refused (first_fault bytes) (table_at bytes) fault e
+
+-- a head, rows and their end, as they stand in the bytes
+pub record Found (bytes : List ℕ) (head : PolicyHead) (count : ℕ) (rows : List PolicyRow) (end : ℕ) : Type 0 where
+  pub begins : starts_with nat_eq bytes magic ≡ true
+  pub long : 32 ≤ length bytes
+  pub head_is : head ≡ head_at bytes
+  pub in_range : is_head head ≡ true
+  pub count_is : count ≡ row_count bytes
+  pub rows_are : rows ≡ rows_at bytes 0 count
+  pub none : file_rows_fault bytes 0 count ≡ None
+  pub end_is : end ≡ start bytes count
+  pub ends : length bytes ≤ end
+
+pub found_table : (bytes : List ℕ) (head : PolicyHead) (count : ℕ) (rows : List PolicyRow) (end : ℕ) → IsBytes bytes → Found bytes head count rows end → IsTable (record { head = head; rows = rows }) × (policy_of bytes ≡ Ok (record { head = head; rows = rows }))
+unfolding table_at policy_of made
+found_table bytes head count rows end fits found =
+    let clean : Clean bytes = record {
+      begins = found.begins;
+      long = found.long;
+      head = ap is_head (sym found.head_is) ∙ found.in_range;
+      rows = rw found.count_is at found.none;
+      ends = rw (found.end_is, found.count_is) at found.ends;
+    } in
+    let rows_are : rows ≡ rows_at bytes 0 (row_count bytes) = found.rows_are ∙ ap (λ (n : ℕ). rows_at bytes 0 n) found.count_is in
+    let is : table_at bytes ≡ record { head = head; rows = rows } = ap (λ (h : PolicyHead). made h (rows_at bytes 0 (row_count bytes))) (sym found.head_is) ∙ ap (made head) (sym rows_are) in
+    (subst (λ (t : Table). IsTable t) is (clean_spelled bytes fits clean).0, faultless (first_fault bytes) (table_at bytes) (clean_none bytes clean) ∙ ap (λ (t : Table). Ok t) is)

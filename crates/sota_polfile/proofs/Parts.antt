@@ -1,5 +1,5 @@
 -- Parts are a table exactly where no fault is found in them.
-use Rattle.std.proofs.Common.{◌≡◌, ℕ, zero, suc, ◌+◌, ◌*◌, ◌≤◌, ◌<◌, Bool, true, false, not, List, [], ◌∷◌, length, get_or, map, Option, Some, None, All, refl, sym, ap, ◌∙◌, arith}
+use Rattle.std.proofs.Common.{◌≡◌, ◌*◌, ◌≤◌, true, false, not, List, [], ◌∷◌, length, map, Some, None, All, sym, ◌∙◌, arith}
 use Rattle.std.proofs.lemmas.Bool.{not_from_true, not_from_false}
 use Rattle.std.proofs.lemmas.List.Elements.{All-from_recursion, recursion_from_All, All-weaker}
 use Rattle.std.proofs.lemmas.List.Sums.{sum_by-le}
@@ -10,8 +10,8 @@ use Rattle.sota_polfile.specs.declared.head.PolicyHead.{PolicyHead}
 use Rattle.sota_polfile.specs.declared.row.PolicyRow.{PolicyRow}
 use Rattle.sota_polfile.specs.Entry.{IsEntry}
 use Rattle.sota_polfile.specs.Table.{Table, IsHead, IsRowHead, IsRow, IsTable, row_head, nodes, cells}
-use Rattle.sota_polfile.specs.Faults.{is_head, first_of, rows_fault, parts_fault}
-use Rattle.sota_polfile.proofs.Rules.{fit_head, first_of_found, first_of_passed, first_of_one, AreRows, Rises, increasing, all_rise, rows_fit, fit_rows, rows_bound}
+use Rattle.sota_polfile.specs.Faults.{is_head, rows_fault, parts_fault}
+use Rattle.sota_polfile.proofs.Rules.{fit_head, first_of_found, first_of_passed, first_of_one, AreRows, increasing, all_rise, rows_fit, fit_rows, rows_bound}
 
 pub head_at_fault : (head : PolicyHead) (rows : List PolicyRow) → is_head head ≡ false → parts_fault head rows ≡ Some (Range 0)
 unfolding parts_fault

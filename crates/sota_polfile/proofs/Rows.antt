@@ -1,13 +1,12 @@
 -- Rows that were spelled in a file stand there without fault, and rows without fault are what they spell.
-use Rattle.std.proofs.Common.{◌≡◌, ℕ, zero, suc, ◌+◌, ◌-◌, ◌*◌, ◌/◌, ◌^◌, ◌≤◌, ◌<◌, Bool, true, false, List, [], ◌∷◌, ◌++◌, length, drop, map, Option, Some, None, All, refl, sym, ap, ◌∙◌, subst, append_assoc, add-one, ltb, arith}
-use Rattle.std.specs.List.{flat_map, sum_by, range_with_len, AllByRecursion}
+use Rattle.std.proofs.Common.{◌≡◌, ℕ, zero, suc, ◌+◌, ◌-◌, ◌*◌, ◌/◌, ◌^◌, ◌≤◌, ◌<◌, true, false, List, [], ◌∷◌, ◌++◌, length, drop, Option, Some, None, refl, sym, ap, ◌∙◌, append_assoc, add-one, ltb, arith}
+use Rattle.std.specs.List.{flat_map, sum_by, AllByRecursion}
 use Rattle.std.specs.Int.{w32, to_be_bytes}
 use Rattle.std.proofs.lemmas.Bool.{lt-ltb, le-ltb, ltb-false}
 use Rattle.std.proofs.lemmas.List.{length-append}
 use Rattle.std.proofs.lemmas.List.Sums.{sum_by-cons}
 use Rattle.std.proofs.lemmas.List.Elements.{All-from_recursion, recursion_from_All}
 use Rattle.std.proofs.lemmas.List.FromFn.{length-map-range_with_len}
-use Rattle.sota_polfile.specs.declared.entry.PolicyEntry.{PolicyEntry}
 use Rattle.sota_polfile.specs.declared.fault.PolicyFault.{PolicyFault}
 use Rattle.sota_polfile.specs.declared.fault.PolicyFault.TheVariants.{Truncated}
 use Rattle.sota_polfile.specs.declared.head.PolicyHead.{PolicyHead}
@@ -157,6 +156,18 @@ pub node_before_after : (bytes : List ℕ) (k : ℕ) → node_before bytes (k + 
 unfolding node_before
 node_before_after bytes k = rw add-one refl
 
+pub file_rows_passed : (bytes : List ℕ) (k n : ℕ) → row_fault bytes k ≡ None → file_rows_fault bytes k (suc n) ≡ file_rows_fault bytes (k + 1) n
+unfolding file_rows_fault
+file_rows_passed bytes k n none = rw none refl
+
+pub file_rows_found : (bytes : List ℕ) (k n : ℕ) (fault : PolicyFault) → row_fault bytes k ≡ Some fault → file_rows_fault bytes k (suc n) ≡ Some fault
+unfolding file_rows_fault
+file_rows_found bytes k n fault found = rw found refl
+
+pub file_rows_done : (bytes : List ℕ) (k : ℕ) → file_rows_fault bytes k 0 ≡ None
+unfolding file_rows_fault
+file_rows_done bytes k = refl
+
 -- ---- rows one after the other
 
 -- rows that were spelled from row k on
@@ -168,9 +179,9 @@ pub record AllStand (bytes rest : List ℕ) (k : ℕ) (rows : List PolicyRow) : 
 pub rows_again : (bytes rest : List ℕ) (k : ℕ) (rows : List PolicyRow) → IsHead (head_at bytes) → AllByRecursion (IsRow (head_at bytes)) rows → Rises (node_before bytes k) (nodes rows) → drop (start bytes k) bytes ≡ flat_map spelled_row rows ++ rest → AllStand bytes rest k rows
 unfolding file_rows_fault
 rows_again bytes rest k [] head are up e = record { none = refl; are = refl; behind = rw (zero_more k) e }
-    where
-      zero_more : (k : ℕ) → k + 0 ≡ k
-      zero_more k = omega arith
+  where
+    zero_more : (k : ℕ) → k + 0 ≡ k
+    zero_more k = omega arith
 rows_again bytes rest k (row ∷ rows) head are up e =
     let at = start bytes k in
     let one = row_again bytes (flat_map spelled_row rows ++ rest) at row (row_fits (head_at bytes) (row_head row) head are.0.numbers) (recursion_from_All IsEntry row.entries are.0.entries) (e ∙ append_assoc (spelled_row row) (flat_map spelled_row rows) rest) in

@@ -1,7 +1,6 @@
 -- Tests and facts about tables: no fault is found in parts exactly where they are a table.
-use Rattle.std.proofs.Common.{◌≡◌, ◌≢◌, ℕ, zero, suc, ◌+◌, ◌-◌, ◌≤◌, ◌<◌, Bool, true, false, cond, not, ◌&&◌, eqb, leb, ltb, List, [], ◌∷◌, length, get_or, drop, map, unwrap_or, Option, Some, None, All, refl, sym, ap, subst, ◌∙◌, arith}
-use Rattle.std.proofs.lemmas.Bool.{leb-true, leb-false, le-leb, lt-leb, eqb-true, eqb-false, ne_eqb, and_parts, and_from}
-use Rattle.std.proofs.lemmas.Bool.Decides.{nat_tests}
+use Rattle.std.proofs.Common.{◌≡◌, ℕ, zero, suc, ◌+◌, ◌≤◌, ◌<◌, Bool, true, false, not, List, [], ◌∷◌, length, get_or, drop, map, unwrap_or, Option, Some, None, refl, sym, ap, ◌∙◌, arith}
+use Rattle.std.proofs.lemmas.Bool.{leb-true, leb-false, le-leb, lt-leb, eqb-false, ne_eqb, and_parts, and_from}
 use Rattle.std.proofs.lemmas.List.{at_drop_more, at_drop_all}
 use Rattle.std.specs.List.{AllByRecursion}
 use Rattle.std.specs.List.Sorted.{IsStrictlyIncreasing}
@@ -10,7 +9,7 @@ use Rattle.sota_polfile.specs.declared.fault.PolicyFault.TheVariants.{Order, Ran
 use Rattle.sota_polfile.specs.declared.head.PolicyHead.{PolicyHead}
 use Rattle.sota_polfile.specs.declared.row.PolicyRow.{PolicyRow}
 use Rattle.sota_polfile.specs.declared.row.RowHead.{RowHead}
-use Rattle.sota_polfile.specs.Table.{IsHead, IsRowHead, NODE_LIMIT, BUDGET_LIMIT, row_head, nodes}
+use Rattle.sota_polfile.specs.Table.{IsHead, IsRowHead, row_head, nodes}
 use Rattle.sota_polfile.specs.Faults.{is_head, is_row_head, is_unordered, fault_if, first_of, numbers_fault, rows_fault}
 
 not_true : (b : Bool) → not b ≡ true → b ≡ false
@@ -90,10 +89,10 @@ numbers_fit head before number row e =
     let p = test_failed (is_unordered before row.node) (Order number) (fault_if (not (is_row_head head row)) (Range number) ∷ []) e in
     let q = test_failed (not (is_row_head head row)) (Range number) [] p.1 in
     (p.0, row_head_fits head row (true_of_not _ q.0))
-    where
-      true_of_not : (b : Bool) → not b ≡ false → b ≡ true
-      true_of_not true e = refl
-      true_of_not false e = absurd cc
+  where
+    true_of_not : (b : Bool) → not b ≡ false → b ≡ true
+    true_of_not true e = refl
+    true_of_not false e = absurd cc
 
 pub fit_numbers : (head : PolicyHead) (before : Option ℕ) (number : ℕ) (row : RowHead) → is_unordered before row.node ≡ false → IsRowHead head row → numbers_fault head before number row ≡ None
 unfolding numbers_fault
@@ -116,9 +115,9 @@ increasing before (n ∷ m ∷ ns) h (suc k) lt =
     let inner : k + 1 < length (m ∷ ns) = omega arith in
     let step = increasing (Some n) (m ∷ ns) h.1 k inner in
     rw (suc_add k) step
-    where
-      suc_add : (k : ℕ) → suc k + 1 ≡ suc (k + 1)
-      suc_add k = omega arith
+  where
+    suc_add : (k : ℕ) → suc k + 1 ≡ suc (k + 1)
+    suc_add k = omega arith
 
 increasing_rest : (n : ℕ) (ns : List ℕ) → IsStrictlyIncreasing (n ∷ ns) → IsStrictlyIncreasing ns
 increasing_rest n ns h k lt =
@@ -131,9 +130,9 @@ rises before [] first h = tt
 rises before (n ∷ []) first h = (first n [] refl, tt)
 rises before (n ∷ m ∷ ns) first h =
     (first n (m ∷ ns) refl, rises (Some n) (m ∷ ns) (λ k more e. lt-leb _ _ (rw (head_is m k ns more e) at (h 0 (omega arith)))) (increasing_rest n (m ∷ ns) h))
-    where
-      head_is : (m k : ℕ) (ns more : List ℕ) → (m ∷ ns) ≡ (k ∷ more) → m ≡ k
-      head_is m k ns more e = cc
+  where
+    head_is : (m k : ℕ) (ns more : List ℕ) → (m ∷ ns) ≡ (k ∷ more) → m ≡ k
+    head_is m k ns more e = cc
 
 pub all_rise : (ns : List ℕ) → IsStrictlyIncreasing ns → Rises None ns
 all_rise ns h = rises None ns (λ n more e. refl) h

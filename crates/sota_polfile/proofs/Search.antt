@@ -1,5 +1,5 @@
 -- A binary search among rows in rising nodes ends at the row of a node, if there is one.
-use Rattle.std.proofs.Common.{◌≡◌, ◌==◌, ℕ, zero, suc, ◌+◌, ◌≤◌, ◌<◌, Bool, true, false, List, [], ◌∷◌, length, get_or, map, Option, Some, None, Result, Ok, Err, IfOk, OnErr, slice_get, Less, Greater, inl, inr, refl, sym, ap, ◌∙◌, arith}
+use Rattle.std.proofs.Common.{◌≡◌, ◌==◌, ℕ, zero, suc, ◌+◌, ◌<◌, Bool, true, false, List, [], ◌∷◌, length, get_or, Some, None, Result, Ok, Err, IfOk, OnErr, slice_get, Less, Greater, inl, inr, refl, sym, ◌∙◌, arith}
 use Rattle.std.specs.List.{find}
 use Rattle.std.specs.List.Sorted.{IsStrictlyIncreasing, IsSearchInRange, IsBinarySearchResult, IsNonDecreasingBy}
 use Rattle.std.specs.Ordering.{nat_cmp, ordering_index}
@@ -53,7 +53,7 @@ module _ (rows : List PolicyRow) (rising : IsStrictlyIncreasing (nodes rows)) wh
       found_by d = find_at (λ row. row.node == node) rows at d within (eq-eqb _ _ (is d)) (λ j lt. ne_eqb _ _ (λ same. absurd (omega (arith, below_at j at d lt within, is d, same)))) ∙ sym (slice_get-get_or rows at d within)
 
       found : find (λ row. row.node == node) rows ≡ slice_get rows at
-      found = elim (slice_get_cases rows at).1 [ | inl here ↦ found_by here.0 | inr past ↦ absurd (omega arith) ]
+      found = elim (slice_get_cases rows at).1 [ inl here ↦ found_by here.0 | inr past ↦ absurd (omega arith) ]
   searched node (Err at) within parted = record { within = tt; found = tt; absent = find_nowhere (λ row. row.node == node) rows (λ j d lt. ne_eqb _ _ (λ same. absurd (elsewhere j d lt same))) }
     where
       elsewhere : (j : ℕ) (d : PolicyRow) → j < length rows → (get_or rows j d).node ≡ node → ⊥

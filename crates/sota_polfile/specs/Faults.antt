@@ -1,6 +1,7 @@
 -- The first fault of bytes that are no policy file, and of parts that are no table.
-use Rattle.std.specs.Prelude.{◌≡◌, ℕ, ◌+◌, ◌-◌, ◌*◌, ◌/◌, ◌==◌, nat_le, nat_lt, nat_eq, Bool, true, false, not, ◌&&◌, if◌then◌else◌, List, [], ◌∷◌, length, map, Option, Some, None, Result, Ok, Err}
+use Rattle.std.specs.Prelude.{◌≡◌, ℕ, ◌+◌, ◌-◌, ◌*◌, ◌/◌, ◌==◌, nat_le, nat_lt, nat_eq, Bool, false, not, ◌&&◌, if◌then◌else◌, List, [], ◌∷◌, length, map, Option, Some, None, Result, Ok, Err}
 use Rattle.std.specs.Option.{option_map_or}
+use Rattle.std.specs.Result.{result_err}
 use Rattle.std.specs.List.{starts_with, range_with_len}
 use Rattle.sota_units.specs.Rounding.{SCALE_LIMIT}
 use Rattle.sota_polfile.specs.declared.fault.PolicyFault.{PolicyFault}
@@ -96,14 +97,17 @@ policy_of bytes = or_fault (first_fault bytes) (table_at bytes)
 abbrev pub cut_of : ℕ → PolicyFault
 cut_of len = if nat_lt len 8 then Magic else (if nat_lt len 32 then Truncated 0 else Truncated (32 + 12 * ((len - 32) / 12)))
 
--- A call answers this fault, where there is one. Want of memory may take the place of each answer.
+-- The fault that was found. Want of memory may take the place of every answer.
+abbrev pub IsFault : PolicyFault → Option PolicyFault → Type 0
+IsFault NoMemory found = Unit {0}
+IsFault fault found = found ≡ Some fault
+
+-- a call answers the fault that was found, and Ok where there was none
 abbrev pub Answers : {T : Type 0} → Result T PolicyFault → Option PolicyFault → Type 0
 Answers (Ok value) found = found ≡ None
-Answers (Err NoMemory) found = Unit {0}
-Answers (Err fault) found = found ≡ Some fault
+Answers (Err fault) found = IsFault fault found
 
--- A call answers so, but for want of memory.
+-- a call answers so, but for want of memory
 abbrev pub Gives : {T : Type 0} → Result T PolicyFault → Result T PolicyFault → Type 0
 Gives (Ok value) answer = answer ≡ Ok value
-Gives (Err NoMemory) answer = Unit {0}
-Gives (Err fault) answer = answer ≡ Err fault
+Gives (Err fault) answer = IsFault fault (result_err answer)

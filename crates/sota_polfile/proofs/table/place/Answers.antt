@@ -1,7 +1,7 @@
 use Rattle.std.proofs.Common.{rules}
 use Rattle.std.proofs.lemmas.List.Sorted.{answers_always}
 use Rattle.sota_polfile.specs.declared.row.PolicyRow.{PolicyRow}
-use Rattle.sota_polfile.proofs.Search.{Searched, searched}
+use Rattle.sota_polfile.proofs.Search.{searched}
 use Rattle.sota_polfile.proofs.table.place.Goals as goal
 
 pub returns : goal.returns

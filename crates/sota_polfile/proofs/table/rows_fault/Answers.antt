@@ -1,9 +1,9 @@
-use Rattle.std.proofs.Common.{◌≡◌, None, All, map, sym, arith}
+use Rattle.std.proofs.Common.{◌≡◌, None, All, sym, arith}
 use Rattle.std.proofs.lemmas.List.Elements.{All-more, All-same}
 use Rattle.std.proofs.lemmas.List.{take_all}
 use Rattle.sota_polfile.specs.Entry.{IsEntry}
 use Rattle.sota_polfile.specs.Table.{row_head}
-use Rattle.sota_polfile.specs.Faults.{numbers_fault, rows_fault}
+use Rattle.sota_polfile.specs.Faults.{numbers_fault}
 use Rattle.sota_polfile.proofs.Rules.{numbers_fit, above_before, rows_go_on, rows_end, rows_done}
 use Rattle.sota_polfile.proofs.table.rows_fault.Goals as goal
 

@@ -1,8 +1,7 @@
-use Rattle.std.proofs.Common.{◌≡◌, ◌+◌, ◌≤◌, length, get_or, take, ap, arith}
-use Rattle.std.specs.List.{sum_by}
+use Rattle.std.proofs.Common.{◌≡◌, length, get_or, ap, arith}
 use Rattle.std.proofs.lemmas.List.Sums.{sum_by_more_le}
 use Rattle.sota_polfile.specs.declared.row.PolicyRow.{PolicyRow}
-use Rattle.sota_polfile.proofs.Parts.{table_bound, cells_bound}
+use Rattle.sota_polfile.proofs.Parts.{cells_bound}
 use Rattle.sota_polfile.proofs.table.PolicyTable.cells.Goals as goal
 
 pub overflow_add-count : goal.overflow_add-count

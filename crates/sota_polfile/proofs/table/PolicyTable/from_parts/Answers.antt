@@ -1,6 +1,5 @@
-use Rattle.std.proofs.Common.{◌≡◌, ◌∙◌, true, false, Some, None, map, sym, refl}
-use Rattle.sota_polfile.specs.Table.{row_head}
-use Rattle.sota_polfile.specs.Faults.{is_head, rows_fault}
+use Rattle.std.proofs.Common.{◌≡◌, ◌∙◌, true, false, sym, refl}
+use Rattle.sota_polfile.specs.Faults.{is_head}
 use Rattle.sota_polfile.proofs.Parts.{head_at_fault, head_passes, parts_are, faulty_head, faulty_rows}
 use Rattle.sota_polfile.proofs.table.PolicyTable.from_parts.Goals as goal
 
