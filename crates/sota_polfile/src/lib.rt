@@ -19,3 +19,6 @@ pub use reading::read_policy;
 pub use row::PolicyRow;
 pub use table::PolicyTable;
 pub use writing::write_policy;
+
+#[cfg(test)]
+mod tests;

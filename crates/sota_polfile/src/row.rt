@@ -19,7 +19,7 @@ pub struct PolicyRow {
 
 /// What a file says of a row before its entries.
 #[derive(Clone, Copy)]
-pub struct RowHead {
+pub(crate) struct RowHead {
     pub node: u32,
     pub first: u32,
     pub count: u64,
@@ -27,7 +27,7 @@ pub struct RowHead {
 
 impl PolicyRow {
     /// The entry for this budget. None exactly where the row has none.
-    pub fn entry(&self, budget: u32) -> Option<PolicyEntry>
+    pub(crate) fn entry(&self, budget: u32) -> Option<PolicyEntry>
         ensures { result ≡ entry_for self.now budget }
     {
         if budget < self.first {
