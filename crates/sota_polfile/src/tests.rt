@@ -99,7 +99,7 @@ fn road_head(budget: u32) -> PolicyHead {
 }
 
 #[test]
-fn parts_are_written(rt: HostRuntime) -> Result<(), Fail> {
+fn parts(rt: HostRuntime) -> Result<(), Fail> {
     let alloc = rt.alloc();
     let city = PolicyTable::from_parts(CITY_HEAD, city_rows(alloc, 2)?)?;
     assert_eq!(rt; write_policy(alloc, &city)?.as_slice(), CITY.as_slice());
@@ -109,6 +109,12 @@ fn parts_are_written(rt: HostRuntime) -> Result<(), Fail> {
     assert_eq!(rt; write_policy(alloc, &late)?.as_slice(), LATE.as_slice());
     let stuck = PolicyTable::from_parts(road_head(4), Vec::new(alloc))?;
     assert_eq!(rt; write_policy(alloc, &stuck)?.as_slice(), STUCK.as_slice());
+    let unordered = PolicyTable::from_parts(CITY_HEAD, city_rows(alloc, 1)?);
+    assert_eq!(rt; unordered.err(), Some(PolicyFault::Order(2)));
+    let at_dest = PolicyTable::from_parts(CITY_HEAD, city_rows(alloc, 3)?);
+    assert_eq!(rt; at_dest.err(), Some(PolicyFault::Range(2)));
+    let headless = PolicyTable::from_parts(road_head(65_536), Vec::new(alloc));
+    assert_eq!(rt; headless.err(), Some(PolicyFault::Range(0)));
     Ok(())
 }
 
@@ -222,18 +228,6 @@ fn faults(rt: HostRuntime) -> Result<(), Fail> {
         read_policy(rt.alloc(), &longer).err(),
         Some(PolicyFault::Trailing(104))
     );
-    Ok(())
-}
-
-#[test]
-fn parts_at_fault(rt: HostRuntime) -> Result<(), Fail> {
-    let alloc = rt.alloc();
-    let unordered = PolicyTable::from_parts(CITY_HEAD, city_rows(alloc, 1)?);
-    assert_eq!(rt; unordered.err(), Some(PolicyFault::Order(2)));
-    let at_dest = PolicyTable::from_parts(CITY_HEAD, city_rows(alloc, 3)?);
-    assert_eq!(rt; at_dest.err(), Some(PolicyFault::Range(2)));
-    let headless = PolicyTable::from_parts(road_head(65_536), Vec::new(alloc));
-    assert_eq!(rt; headless.err(), Some(PolicyFault::Range(0)));
     Ok(())
 }
 
