@@ -1,0 +1,259 @@
+-- A spelling is without fault and says its table, and bytes without fault are the spelling of what they say.
+use Rattle.std.proofs.Common.{◌≡◌, ℕ, ◌+◌, ◌*◌, ◌^◌, ◌≤◌, ◌<◌, Bool, true, false, not, ltb, List, [], ◌∷◌, ◌++◌, length, take, drop, Some, None, Result, Ok, Err, IfOk, All, refl, sym, ap, ◌∙◌, subst, inl, inr, arith}
+use Rattle.std.specs.Prelude.{nat_eq}
+use Rattle.std.specs.List.{flat_map, starts_with}
+use Rattle.std.specs.Int.{w32, to_be_bytes}
+use Rattle.std.specs.Result.{result_err}
+use Rattle.std.specs.Cmp.Lexicographic.{same_text}
+use Rattle.std.proofs.lemmas.Bool.{lt-ltb, le-ltb, ltb-false, not_from_true, not_from_false}
+use Rattle.std.proofs.lemmas.List.{append-nil, take-append-drop, length-append, length-drop, drop_all, get_or_past}
+use Rattle.std.proofs.lemmas.List.Elements.{All-from_recursion, recursion_from_All, All-get_or}
+use Rattle.std.proofs.lemmas.List.FromFn.{length-map-range_with_len}
+use Rattle.std.proofs.lemmas.Bool.{cases_lt}
+use Rattle.sota_polfile.specs.declared.fault.PolicyFault.{PolicyFault}
+use Rattle.sota_polfile.specs.declared.fault.PolicyFault.TheVariants.{Magic, Truncated, Range, Trailing}
+use Rattle.sota_polfile.specs.declared.head.PolicyHead.{PolicyHead}
+use Rattle.sota_polfile.specs.declared.row.PolicyRow.{PolicyRow}
+use Rattle.sota_polfile.specs.Table.{Table, IsHead, IsRow, IsTable, nodes, cells}
+use Rattle.sota_polfile.specs.Spelling.{magic, numbers, spelled_head, spelled_row, spelling}
+use Rattle.sota_polfile.specs.Places.{number_at, head_at, row_count, start, node_before, rows_at, table_at}
+use Rattle.sota_polfile.specs.Faults.{is_head, file_rows_fault, first_fault, policy_of, Gives}
+use Rattle.sota_polfile.proofs.Numbers.{IsBytes, wide32, number_again, number_takes}
+use Rattle.sota_polfile.proofs.Rules.{head_fits, fit_head, first_of_found, test_failed, none_first, increasing}
+use Rattle.sota_polfile.proofs.Parts.{table_rows, table_bound}
+use Rattle.sota_polfile.proofs.Rows.{rows_again, rows_take, length-rows}
+use Rattle.sota_polfile.proofs.Replies.{or_fault_ok, refused, faultless}
+
+not_false : (b : Bool) → not b ≡ false → b ≡ true
+not_false true e = refl
+not_false false e = absurd cc
+
+-- bytes in which no fault is found
+pub record Clean (bytes : List ℕ) : Type 0 where
+  pub begins : starts_with nat_eq bytes magic ≡ true
+  pub long : 32 ≤ length bytes
+  pub head : is_head (head_at bytes) ≡ true
+  pub rows : file_rows_fault bytes 0 (row_count bytes) ≡ None
+  pub ends : length bytes ≤ start bytes (row_count bytes)
+
+pub clean_none : (bytes : List ℕ) → Clean bytes → first_fault bytes ≡ None
+unfolding first_fault
+clean_none bytes clean =
+    let begins = not_from_true _ clean.begins in
+    let long : ltb (length bytes) 32 ≡ false = le-ltb _ _ clean.long in
+    let head = not_from_true _ clean.head in
+    let ends : ltb (start bytes (row_count bytes)) (length bytes) ≡ false = le-ltb _ _ clean.ends in
+    rw (begins, long, head, clean.rows, ends) refl
+
+pub none_clean : (bytes : List ℕ) → first_fault bytes ≡ None → Clean bytes
+unfolding first_fault
+none_clean bytes e =
+    let begins = test_failed (not (starts_with nat_eq bytes magic)) Magic _ e in
+    let long = test_failed (ltb (length bytes) 32) (Truncated 0) _ begins.1 in
+    let head = test_failed (not (is_head (head_at bytes))) (Range 0) _ long.1 in
+    let rows = none_first (file_rows_fault bytes 0 (row_count bytes)) _ head.1 in
+    let ends = test_failed (ltb (start bytes (row_count bytes)) (length bytes)) (Trailing (start bytes (row_count bytes))) _ rows.1 in
+    record {
+      begins = not_false _ begins.0;
+      long = ltb-false _ _ long.0;
+      head = not_false _ head.0;
+      rows = rows.0;
+      ends = ltb-false _ _ ends.0;
+    }
+
+-- ---- each fault
+
+pub not_magic : (bytes : List ℕ) → starts_with nat_eq bytes magic ≡ false → first_fault bytes ≡ Some Magic
+unfolding first_fault
+not_magic bytes begins = first_of_found _ Magic _ (not_from_false _ begins)
+
+pub short_head : (bytes : List ℕ) → starts_with nat_eq bytes magic ≡ true → length bytes < 32 → first_fault bytes ≡ Some (Truncated 0)
+unfolding first_fault
+short_head bytes begins short =
+    let passed = not_from_true _ begins in
+    let cut : ltb (length bytes) 32 ≡ true = lt-ltb _ _ short in
+    rw (passed, cut) refl
+
+pub bad_head : (bytes : List ℕ) → starts_with nat_eq bytes magic ≡ true → 32 ≤ length bytes → is_head (head_at bytes) ≡ false → first_fault bytes ≡ Some (Range 0)
+unfolding first_fault
+bad_head bytes begins long head =
+    let passed = not_from_true _ begins in
+    let whole : ltb (length bytes) 32 ≡ false = le-ltb _ _ long in
+    let bad = not_from_false _ head in
+    rw (passed, whole, bad) refl
+
+pub bad_rows : (bytes : List ℕ) (fault : PolicyFault) → starts_with nat_eq bytes magic ≡ true → 32 ≤ length bytes → is_head (head_at bytes) ≡ true → file_rows_fault bytes 0 (row_count bytes) ≡ Some fault → first_fault bytes ≡ Some fault
+unfolding first_fault
+bad_rows bytes fault begins long head found =
+    let passed = not_from_true _ begins in
+    let whole : ltb (length bytes) 32 ≡ false = le-ltb _ _ long in
+    let good = not_from_true _ head in
+    rw (passed, whole, good, found) refl
+
+pub more_bytes : (bytes : List ℕ) → starts_with nat_eq bytes magic ≡ true → 32 ≤ length bytes → is_head (head_at bytes) ≡ true → file_rows_fault bytes 0 (row_count bytes) ≡ None → start bytes (row_count bytes) < length bytes → first_fault bytes ≡ Some (Trailing (start bytes (row_count bytes)))
+unfolding first_fault
+more_bytes bytes begins long head rows past =
+    let passed = not_from_true _ begins in
+    let whole : ltb (length bytes) 32 ≡ false = le-ltb _ _ long in
+    let good = not_from_true _ head in
+    let trailing : ltb (start bytes (row_count bytes)) (length bytes) ≡ true = lt-ltb _ _ past in
+    rw (passed, whole, good, rows, trailing) refl
+
+-- ---- what is spelled is read
+
+pub length-head : (head : PolicyHead) (count : ℕ) → length (spelled_head head count) ≡ 32
+unfolding spelled_head
+length-head head count = refl
+
+pub length-spelling : (table : Table) → length (spelling table) ≡ 32 + 12 * length table.rows + 12 * cells table
+unfolding spelling
+length-spelling table =
+    let front = spelled_head table.head (length table.rows) in
+    omega (arith, length-append front (flat_map spelled_row table.rows), length-head table.head (length table.rows), length-rows table.rows)
+
+-- a head that was spelled
+pub record HeadStands (bytes rest : List ℕ) (is : PolicyHead) (count : ℕ) : Type 0 where
+  pub begins : starts_with nat_eq bytes magic ≡ true
+  pub long : 32 ≤ length bytes
+  pub head : head_at bytes ≡ is
+  pub rows : row_count bytes ≡ count
+  pub behind : drop 32 bytes ≡ rest
+
+pub head_again : (bytes rest : List ℕ) (head : PolicyHead) (count : ℕ) → IsHead head → count < 2 ^ 32 → bytes ≡ spelled_head head count ++ rest → HeadStands bytes rest head count
+unfolding spelled_head
+head_again bytes rest head count fits few e =
+    let nodes : number_at w32 bytes 8 ≡ head.nodes = number_again w32 (2 ^ 32) wide32 bytes (numbers (head.dest ∷ head.origin ∷ head.budget ∷ head.scale ∷ count ∷ []) ++ rest) 8 head.nodes (omega (arith, fits.nodes.1)) (ap (drop 8) e) in
+    let dest : number_at w32 bytes 12 ≡ head.dest = number_again w32 (2 ^ 32) wide32 bytes (numbers (head.origin ∷ head.budget ∷ head.scale ∷ count ∷ []) ++ rest) 12 head.dest (omega (arith, fits.nodes.1, fits.dest.1)) (ap (drop 12) e) in
+    let origin : number_at w32 bytes 16 ≡ head.origin = number_again w32 (2 ^ 32) wide32 bytes (numbers (head.budget ∷ head.scale ∷ count ∷ []) ++ rest) 16 head.origin (omega (arith, fits.nodes.1, fits.origin.1)) (ap (drop 16) e) in
+    let budget : number_at w32 bytes 20 ≡ head.budget = number_again w32 (2 ^ 32) wide32 bytes (numbers (head.scale ∷ count ∷ []) ++ rest) 20 head.budget (omega (arith, fits.budget)) (ap (drop 20) e) in
+    let scale : number_at w32 bytes 24 ≡ head.scale = number_again w32 (2 ^ 32) wide32 bytes (numbers (count ∷ []) ++ rest) 24 head.scale (omega (arith, fits.scale.1)) (ap (drop 24) e) in
+    let rows : number_at w32 bytes 28 ≡ count = number_again w32 (2 ^ 32) wide32 bytes rest 28 count few (ap (drop 28) e) in
+    record {
+      begins = rw e refl;
+      long = omega (arith, ap length e, length-append (spelled_head head count) rest);
+      head = rw (nodes, dest, origin, budget, scale) refl;
+      rows = rows;
+      behind = ap (drop 32) e;
+    }
+
+-- a table's spelling has no fault, and says that table
+pub record Said (table : Table) : Type 0 where
+  pub clean : Clean (spelling table)
+  pub is : table_at (spelling table) ≡ table
+
+made : PolicyHead → List PolicyRow → Table
+made head rows = record { head = head; rows = rows }
+
+pub said : (table : Table) → IsTable table → Said table
+unfolding spelling table_at start node_before made
+said table is =
+    let bytes = spelling table in
+    let few = table_bound table is in
+    let rows = table_rows table is in
+    let head = head_again bytes (flat_map spelled_row table.rows) table.head (length table.rows) is.head (omega (arith, few, is.head.nodes.1)) refl in
+    let all = rows_again bytes [] 0 table.rows (rw head.head is.head) (rw head.head (recursion_from_All (IsRow table.head) table.rows is.rows)) rows.rising (head.behind ∙ sym (append-nil (flat_map spelled_row table.rows))) in
+    let zero_more : 0 + length table.rows ≡ length table.rows = omega arith in
+    let end = rw zero_more at all.behind in
+    record {
+      clean = record {
+        begins = head.begins;
+        long = head.long;
+        head = ap is_head head.head ∙ fit_head table.head is.head;
+        rows = rw head.rows all.none;
+        ends = rw head.rows (omega (arith, length-drop (start bytes (length table.rows)) bytes, ap length end));
+      };
+      is = ap (λ (h : PolicyHead). made h (rows_at bytes 0 (row_count bytes))) head.head ∙ ap (λ (n : ℕ). made table.head (rows_at bytes 0 n)) head.rows ∙ ap (made table.head) all.are;
+    }
+
+pub read_again : (table : Table) → IsTable table → policy_of (spelling table) ≡ Ok table
+unfolding policy_of
+read_again table is =
+    let s = said table is in
+    rw (clean_none (spelling table) s.clean, s.is) refl
+
+-- ---- what is read was spelled
+
+head_text : (bytes : List ℕ) → IsBytes bytes → starts_with nat_eq bytes magic ≡ true → 32 ≤ length bytes → bytes ≡ spelled_head (head_at bytes) (row_count bytes) ++ drop 32 bytes
+unfolding spelled_head
+head_text bytes fits begins long =
+    let first : magic ≡ take 8 bytes = same_text magic (take 8 bytes) (sym begins) in
+    let nodes : drop 8 bytes ≡ to_be_bytes w32 (number_at w32 bytes 8) ++ drop 12 bytes = number_takes w32 (2 ^ 32) wide32 bytes 8 fits (omega arith) in
+    let dest : drop 12 bytes ≡ to_be_bytes w32 (number_at w32 bytes 12) ++ drop 16 bytes = number_takes w32 (2 ^ 32) wide32 bytes 12 fits (omega arith) in
+    let origin : drop 16 bytes ≡ to_be_bytes w32 (number_at w32 bytes 16) ++ drop 20 bytes = number_takes w32 (2 ^ 32) wide32 bytes 16 fits (omega arith) in
+    let budget : drop 20 bytes ≡ to_be_bytes w32 (number_at w32 bytes 20) ++ drop 24 bytes = number_takes w32 (2 ^ 32) wide32 bytes 20 fits (omega arith) in
+    let scale : drop 24 bytes ≡ to_be_bytes w32 (number_at w32 bytes 24) ++ drop 28 bytes = number_takes w32 (2 ^ 32) wide32 bytes 24 fits (omega arith) in
+    let rows : drop 28 bytes ≡ to_be_bytes w32 (number_at w32 bytes 28) ++ drop 32 bytes = number_takes w32 (2 ^ 32) wide32 bytes 28 fits (omega arith) in
+    let from24 = scale ∙ ap (λ (t : List ℕ). to_be_bytes w32 (number_at w32 bytes 24) ++ t) rows in
+    let from20 = budget ∙ ap (λ (t : List ℕ). to_be_bytes w32 (number_at w32 bytes 20) ++ t) from24 in
+    let from16 = origin ∙ ap (λ (t : List ℕ). to_be_bytes w32 (number_at w32 bytes 16) ++ t) from20 in
+    let from12 = dest ∙ ap (λ (t : List ℕ). to_be_bytes w32 (number_at w32 bytes 12) ++ t) from16 in
+    let from8 = nodes ∙ ap (λ (t : List ℕ). to_be_bytes w32 (number_at w32 bytes 8) ++ t) from12 in
+    sym (take-append-drop 8 bytes) ∙ ap (λ (t : List ℕ). t ++ drop 8 bytes) (sym first) ∙ ap (λ (t : List ℕ). magic ++ t) from8
+
+pub clean_spelled : (bytes : List ℕ) → IsBytes bytes → Clean bytes → IsTable (table_at bytes) × (bytes ≡ spelling (table_at bytes))
+unfolding spelling table_at start node_before
+clean_spelled bytes fits clean =
+    let n = row_count bytes in
+    let head = head_text bytes fits clean.begins clean.long in
+    let all = rows_take bytes 0 n fits clean.long clean.rows in
+    let zero_more : 0 + n ≡ n = omega arith in
+    let none : drop (start bytes (0 + n)) bytes ≡ [] = rw zero_more (drop_all (start bytes n) bytes clean.ends) in
+    let rows : drop 32 bytes ≡ flat_map spelled_row (rows_at bytes 0 n) = all.text ∙ ap (λ (t : List ℕ). flat_map spelled_row (rows_at bytes 0 n) ++ t) none ∙ append-nil (flat_map spelled_row (rows_at bytes 0 n)) in
+    let count : length (rows_at bytes 0 n) ≡ n = length-map-range_with_len _ 0 n in (
+      record {
+        head = head_fits (head_at bytes) clean.head;
+        rows = All-from_recursion (IsRow (head_at bytes)) (rows_at bytes 0 n) all.are;
+        rising = increasing None (nodes (rows_at bytes 0 n)) all.up;
+      },
+      rw count (head ∙ ap (λ (t : List ℕ). spelled_head (head_at bytes) n ++ t) rows),
+    )
+
+pub read_spelled : (bytes : List ℕ) (table : Table) → IsBytes bytes → policy_of bytes ≡ Ok table → IsTable table × (bytes ≡ spelling table)
+unfolding policy_of
+read_spelled bytes table fits e =
+    let p = or_fault_ok (first_fault bytes) (table_at bytes) table e in
+    rw p.1 at (clean_spelled bytes fits (none_clean bytes p.0))
+
+pub reads_spelled : (bytes : List ℕ) (r : Result Table PolicyFault) → IsBytes bytes → Gives r (policy_of bytes) → IfOk r (λ table. IsTable table × (bytes ≡ spelling table))
+reads_spelled bytes (Ok table) fits given = read_spelled bytes table fits given
+reads_spelled bytes (Err fault) fits given = tt
+
+-- from the fact that clauses have
+pub IsBytes-from_all : (bytes : List ℕ) → All (λ byte. byte < 256) bytes → IsBytes bytes
+IsBytes-from_all bytes h i =
+    elim (cases_lt i (length bytes)) [
+      | inl lt ↦ All-get_or (λ byte. byte < 256) bytes i 0 lt h
+      | inr le ↦ rw (get_or_past bytes i 0 le) (omega arith)
+    ]
+
+-- ---- what a reader has found
+
+pub policy_refused : (bytes : List ℕ) (fault : PolicyFault) → first_fault bytes ≡ Some fault → result_err (policy_of bytes) ≡ Some fault
+unfolding policy_of
+policy_refused bytes fault e = refused (first_fault bytes) (table_at bytes) fault e
+
+-- a head, rows and their end, as they stand in the bytes
+pub record Found (bytes : List ℕ) (head : PolicyHead) (count : ℕ) (rows : List PolicyRow) (end : ℕ) : Type 0 where
+  pub begins : starts_with nat_eq bytes magic ≡ true
+  pub long : 32 ≤ length bytes
+  pub head_is : head ≡ head_at bytes
+  pub in_range : is_head head ≡ true
+  pub count_is : count ≡ row_count bytes
+  pub rows_are : rows ≡ rows_at bytes 0 count
+  pub none : file_rows_fault bytes 0 count ≡ None
+  pub end_is : end ≡ start bytes count
+  pub ends : length bytes ≤ end
+
+pub found_table : (bytes : List ℕ) (head : PolicyHead) (count : ℕ) (rows : List PolicyRow) (end : ℕ) → IsBytes bytes → Found bytes head count rows end → IsTable (record { head = head; rows = rows }) × (policy_of bytes ≡ Ok (record { head = head; rows = rows }))
+unfolding table_at policy_of made
+found_table bytes head count rows end fits found =
+    let clean : Clean bytes = record {
+      begins = found.begins;
+      long = found.long;
+      head = ap is_head (sym found.head_is) ∙ found.in_range;
+      rows = rw found.count_is at found.none;
+      ends = rw (found.end_is, found.count_is) at found.ends;
+    } in
+    let rows_are : rows ≡ rows_at bytes 0 (row_count bytes) = found.rows_are ∙ ap (λ (n : ℕ). rows_at bytes 0 n) found.count_is in
+    let is : table_at bytes ≡ record { head = head; rows = rows } = ap (λ (h : PolicyHead). made h (rows_at bytes 0 (row_count bytes))) (sym found.head_is) ∙ ap (made head) (sym rows_are) in
+    (subst (λ (t : Table). IsTable t) is (clean_spelled bytes fits clean).0, faultless (first_fault bytes) (table_at bytes) (clean_none bytes clean) ∙ ap (λ (t : Table). Ok t) is)

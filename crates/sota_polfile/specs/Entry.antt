@@ -1,0 +1,8 @@
+-- The numbers of an entry.
+use Rattle.std.specs.Prelude.{◌<◌, ◌^◌}
+use Rattle.sota_polfile.specs.declared.entry.PolicyEntry.{PolicyEntry}
+
+-- an arc has four bytes, a value eight
+pub record IsEntry (entry : PolicyEntry) : Type 0 where
+  pub arc : entry.arc < 2 ^ 32
+  pub value : entry.value < 2 ^ 64

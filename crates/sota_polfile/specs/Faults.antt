@@ -1,0 +1,113 @@
+-- The first fault of bytes that are no policy file, and of parts that are no table.
+use Rattle.std.specs.Prelude.{◌≡◌, ℕ, ◌+◌, ◌-◌, ◌*◌, ◌/◌, ◌==◌, nat_le, nat_lt, nat_eq, Bool, false, not, ◌&&◌, if◌then◌else◌, List, [], ◌∷◌, length, map, Option, Some, None, Result, Ok, Err}
+use Rattle.std.specs.Option.{option_map_or}
+use Rattle.std.specs.Result.{result_err}
+use Rattle.std.specs.List.{starts_with, range_with_len}
+use Rattle.sota_units.specs.Rounding.{SCALE_LIMIT}
+use Rattle.sota_polfile.specs.declared.fault.PolicyFault.{PolicyFault}
+use Rattle.sota_polfile.specs.declared.fault.PolicyFault.TheVariants.{Magic, Truncated, Order, Range, Trailing, NoMemory}
+use Rattle.sota_polfile.specs.declared.head.PolicyHead.{PolicyHead}
+use Rattle.sota_polfile.specs.declared.row.PolicyRow.{PolicyRow}
+use Rattle.sota_polfile.specs.declared.row.RowHead.{RowHead}
+use Rattle.sota_polfile.specs.Table.{Table, NODE_LIMIT, BUDGET_LIMIT, row_head}
+use Rattle.sota_polfile.specs.Spelling.{magic}
+use Rattle.sota_polfile.specs.Places.{head_at, row_count, row_head_at, start, node_before, table_at}
+
+-- the test of IsHead
+abbrev pub is_head : PolicyHead → Bool
+is_head head =
+    (nat_le 1 head.nodes && nat_le head.nodes NODE_LIMIT)
+    && ((nat_le 1 head.dest && nat_le head.dest head.nodes)
+    && ((nat_le 1 head.origin && nat_le head.origin head.nodes)
+    && (nat_le head.budget BUDGET_LIMIT
+    && (nat_le 1 head.scale && nat_le head.scale SCALE_LIMIT))))
+
+-- the test of IsRowHead
+abbrev pub is_row_head : PolicyHead → RowHead → Bool
+is_row_head head row =
+    (nat_le 1 row.node && nat_le row.node head.nodes)
+    && (not (row.node == head.dest)
+    && (nat_le 1 row.count
+    && nat_le (row.first + row.count - 1) head.budget))
+
+abbrev pub fault_if : Bool → PolicyFault → Option PolicyFault
+fault_if found fault = if found then Some fault else None
+
+-- the first fault, where these are looked for in turn
+abbrev pub first_of : List (Option PolicyFault) → Option PolicyFault
+first_of [] = None
+first_of (None ∷ more) = first_of more
+first_of (Some fault ∷ more) = Some fault
+
+-- a row does not stand behind the row before it
+abbrev pub is_unordered : Option ℕ → ℕ → Bool
+is_unordered before node = option_map_or (λ other. nat_le node other) before false
+
+-- the fault of a row's numbers, behind a row of the node before; rows are counted from 1
+unfoldable pub numbers_fault : PolicyHead → Option ℕ → ℕ → RowHead → Option PolicyFault
+numbers_fault head before number row = first_of (fault_if (is_unordered before row.node) (Order number) ∷ fault_if (not (is_row_head head row)) (Range number) ∷ [])
+
+-- the fault of the first row that has one, counted from this number
+unfoldable pub rows_fault : PolicyHead → Option ℕ → ℕ → List RowHead → Option PolicyFault
+rows_fault head before number [] = None
+rows_fault head before number (row ∷ rows) = first_of (numbers_fault head before number row ∷ rows_fault head (Some row.node) (number + 1) rows ∷ [])
+
+-- the fault of parts that are no table
+unfoldable pub parts_fault : PolicyHead → List PolicyRow → Option PolicyFault
+parts_fault head rows = first_of (fault_if (not (is_head head)) (Range 0) ∷ rows_fault head None 1 (map row_head rows) ∷ [])
+
+-- the fault of the row at this place in a file
+unfoldable pub row_fault_at : List ℕ → PolicyHead → ℕ → Option ℕ → ℕ → Option PolicyFault
+row_fault_at bytes head at before number =
+    let row = row_head_at bytes at in
+    let entries = at + 12 in
+    first_of (fault_if (nat_lt (length bytes) entries) (Truncated at)
+    ∷ numbers_fault head before number row
+    ∷ fault_if (nat_lt (length bytes) (entries + 12 * row.count)) (Truncated (entries + 12 * ((length bytes - entries) / 12)))
+    ∷ [])
+
+abbrev pub row_fault : List ℕ → ℕ → Option PolicyFault
+row_fault bytes k = row_fault_at bytes (head_at bytes) (start bytes k) (node_before bytes k) (k + 1)
+
+-- the fault of the first row that has one, of n rows from row k on
+unfoldable pub file_rows_fault : List ℕ → ℕ → ℕ → Option PolicyFault
+file_rows_fault bytes k n = first_of (map (row_fault bytes) (range_with_len k n))
+
+-- the first fault of bytes, none where they are a policy file
+unfoldable pub first_fault : List ℕ → Option PolicyFault
+first_fault bytes =
+    let end = start bytes (row_count bytes) in
+    first_of (fault_if (not (starts_with nat_eq bytes magic)) Magic
+    ∷ fault_if (nat_lt (length bytes) 32) (Truncated 0)
+    ∷ fault_if (not (is_head (head_at bytes))) (Range 0)
+    ∷ file_rows_fault bytes 0 (row_count bytes)
+    ∷ fault_if (nat_lt end (length bytes)) (Trailing end)
+    ∷ [])
+
+-- a value, or the fault that there is
+abbrev pub or_fault : {T : Type 0} → Option PolicyFault → T → Result T PolicyFault
+or_fault None value = Ok value
+or_fault (Some fault) value = Err fault
+
+-- what bytes say: a table, or the first fault
+unfoldable pub policy_of : List ℕ → Result Table PolicyFault
+policy_of bytes = or_fault (first_fault bytes) (table_at bytes)
+
+-- The first fault of the first bytes of a policy file, so many that the file is not whole.
+abbrev pub cut_of : ℕ → PolicyFault
+cut_of len = if nat_lt len 8 then Magic else (if nat_lt len 32 then Truncated 0 else Truncated (32 + 12 * ((len - 32) / 12)))
+
+-- The fault that was found. Want of memory may take the place of every answer.
+abbrev pub IsFault : PolicyFault → Option PolicyFault → Type 0
+IsFault NoMemory found = Unit {0}
+IsFault fault found = found ≡ Some fault
+
+-- a call answers the fault that was found, and Ok where there was none
+abbrev pub Answers : {T : Type 0} → Result T PolicyFault → Option PolicyFault → Type 0
+Answers (Ok value) found = found ≡ None
+Answers (Err fault) found = IsFault fault found
+
+-- a call answers so, but for want of memory
+abbrev pub Gives : {T : Type 0} → Result T PolicyFault → Result T PolicyFault → Type 0
+Gives (Ok value) answer = answer ≡ Ok value
+Gives (Err fault) answer = IsFault fault (result_err answer)

@@ -1,0 +1,5 @@
+pub mod Entry
+pub mod Table
+pub mod Spelling
+pub mod Places
+pub mod Faults

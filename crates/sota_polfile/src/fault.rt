@@ -1,0 +1,38 @@
+// Why bytes are no policy file.
+ghost use Rattle.std.specs.Prelude.{◌≡◌};
+ghost use Rattle.sota_polfile.specs.declared.fault.PolicyFault.TheVariants.{NoMemory};
+
+use std::alloc::{AllocError, AllocFailed};
+
+/// Why bytes are no policy file, or parts are no policy table: the first fault, from the front on.
+#[derive(Clone, Copy, Debug, PartialEq, Eq)]
+pub enum PolicyFault {
+    /// The first eight bytes are not all there or are not the magic.
+    Magic,
+    /// The bytes end inside the head, a row head or an entry: the offset where that begins.
+    Truncated(u64),
+    /// The node of this row, counted from 1, is not greater than the one before.
+    Order(u32),
+    /// A number of this row, counted from 1, is out of its range; 0 stands for the head.
+    Range(u32),
+    /// Bytes follow the last row, from this offset on.
+    Trailing(u64),
+    /// Memory was wanted, and there was none.
+    NoMemory,
+}
+
+impl From<AllocError> for PolicyFault {
+    ghost from_gives = { λ _ fault. fault ≡ NoMemory };
+
+    fn from(_: AllocError) -> PolicyFault {
+        PolicyFault::NoMemory
+    }
+}
+
+impl<T: Drop> From<AllocFailed<T>> for PolicyFault {
+    ghost from_gives = { λ _ fault. fault ≡ NoMemory };
+
+    fn from(_: AllocFailed<T>) -> PolicyFault {
+        PolicyFault::NoMemory
+    }
+}

@@ -1,0 +1,39 @@
+// The head of a policy.
+ghost use Rattle.std.specs.Prelude.{◌≡◌, IsTrue};
+ghost use Rattle.sota_polfile.specs.Table.{IsHead};
+ghost use Rattle.sota_polfile.specs.Faults.{is_head};
+
+/// Whose policy it is: numbers of nodes are from 1 to `nodes`.
+#[derive(Clone, Copy, Debug, PartialEq, Eq)]
+pub struct PolicyHead {
+    /// The network's number of nodes, from 1 to 1,000,000.
+    pub nodes: u32,
+    /// The destination.
+    pub dest: u32,
+    /// The origin.
+    pub origin: u32,
+    /// The budget at the origin in ticks, at most 65,535.
+    pub budget: u32,
+    /// The denominator of the network's masses, from 1 to 1,000,000,000.
+    pub scale: u32,
+}
+
+impl PolicyHead {
+    const NODE_LIMIT: u32 = 1_000_000;
+
+    const BUDGET_LIMIT: u32 = 65_535;
+
+    const SCALE_LIMIT: u32 = 1_000_000_000;
+
+    #[tactic(auto, using(crate::proofs::Rules::head_fits))]
+    pub(crate) fn is_in_range(&self) -> bool
+        ensures value { result ≡ is_head self.now }
+        ensures valid { IsTrue result → IsHead self.now }
+    {
+        (1..=Self::NODE_LIMIT).contains(&self.nodes)
+            && (1..=self.nodes).contains(&self.dest)
+            && (1..=self.nodes).contains(&self.origin)
+            && self.budget <= Self::BUDGET_LIMIT
+            && (1..=Self::SCALE_LIMIT).contains(&self.scale)
+    }
+}

@@ -1,0 +1,72 @@
+// What stands at a place of a file.
+ghost use Rattle.std.specs.Prelude.{◌≡◌, ◌+◌, ◌≤◌, length};
+ghost use Rattle.std.specs.Int.{w32, w64};
+ghost use Rattle.sota_polfile.specs.Places.{number_at, head_at, row_count, row_head_at, entry_at};
+
+use crate::row::RowHead;
+use crate::{PolicyEntry, PolicyHead};
+
+#[tactic(auto, unfolding(crate::specs::Places::number_at))]
+fn u32_at(bytes: &[u8], at: usize) -> u32
+    requires { at + 4 ≤ length bytes.now }
+    ensures { result ≡ number_at w32 bytes.now at }
+{
+    let (_, field) = bytes.split_at(at);
+    u32::from_be_bytes([field[0], field[1], field[2], field[3]])
+}
+
+#[tactic(auto, unfolding(crate::specs::Places::number_at))]
+fn u64_at(bytes: &[u8], at: usize) -> u64
+    requires { at + 8 ≤ length bytes.now }
+    ensures { result ≡ number_at w64 bytes.now at }
+{
+    let (_, field) = bytes.split_at(at);
+    u64::from_be_bytes([
+        field[0], field[1], field[2], field[3], field[4], field[5], field[6], field[7],
+    ])
+}
+
+/// The head of a file.
+pub(crate) fn head_at(bytes: &[u8]) -> PolicyHead
+    requires { 32 ≤ length bytes.now }
+    ensures { result ≡ head_at bytes.now }
+{
+    PolicyHead {
+        nodes: u32_at(bytes, 8),
+        dest: u32_at(bytes, 12),
+        origin: u32_at(bytes, 16),
+        budget: u32_at(bytes, 20),
+        scale: u32_at(bytes, 24),
+    }
+}
+
+/// How many rows the head of a file claims.
+pub(crate) fn row_count(bytes: &[u8]) -> u32
+    requires { 32 ≤ length bytes.now }
+    ensures { result ≡ row_count bytes.now }
+{
+    u32_at(bytes, 28)
+}
+
+/// The row head at this place.
+pub(crate) fn row_head_at(bytes: &[u8], at: usize) -> RowHead
+    requires { at + 12 ≤ length bytes.now }
+    ensures { result ≡ row_head_at bytes.now at }
+{
+    RowHead {
+        node: u32_at(bytes, at),
+        first: u32_at(bytes, at + 4),
+        count: u64::from(u32_at(bytes, at + 8)),
+    }
+}
+
+/// The entry at this place.
+pub(crate) fn entry_at(bytes: &[u8], at: usize) -> PolicyEntry
+    requires { at + 12 ≤ length bytes.now }
+    ensures { result ≡ entry_at bytes.now at }
+{
+    PolicyEntry {
+        arc: u32_at(bytes, at),
+        value: u64_at(bytes, at + 4),
+    }
+}

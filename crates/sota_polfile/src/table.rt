@@ -1,0 +1,121 @@
+// A policy in memory.
+ghost use Rattle.std.specs.Prelude.{◌≡◌, ◌==◌, ◌*◌, ◌<◌, ◌≤◌, ◌↔◌, All, length, slice_get, map, IsOk, IfOk, IfErr, OnErr, IfNone, None, Some};
+ghost use Rattle.std.specs.Option.{option_copied};
+ghost use Rattle.std.specs.List.{find};
+ghost use Rattle.std.specs.List.Sorted.{IsStrictlyIncreasing};
+ghost use Rattle.sota_polfile.specs.Entry.{IsEntry};
+ghost use Rattle.sota_polfile.specs.Table.{Table, IsHead, IsTable, row_head, nodes, cells, entry_of};
+ghost use Rattle.sota_polfile.specs.Faults.{rows_fault, parts_fault};
+
+use crate::{PolicyEntry, PolicyFault, PolicyHead, PolicyRow};
+use std::marker::Model;
+
+/// A policy: its head, and rows in rising nodes whose numbers are in their ranges.
+#[derive(Drop)]
+pub struct PolicyTable {
+    pub(crate) head: PolicyHead,
+    pub(crate) rows: Vec<PolicyRow>,
+}
+
+impl Model for PolicyTable {
+    ghost use Rattle.sota_polfile.specs.Table.{Table, IsTable};
+
+    ghost Value = { Table };
+
+    ghost view = { λ a. record { head = a.head; rows = a.rows.items } };
+
+    ghost invariant = { λ a. IsTable (record { head = a.head; rows = a.rows.items }) };
+}
+
+/// The fault of the first row that has one.
+fn rows_fault(head: &PolicyHead, rows: &[PolicyRow]) -> Option<PolicyFault>
+    requires { IsHead head.now }
+    ensures value { result ≡ rows_fault head.now None 1 (map row_head rows.now) }
+    ensures entries { IfNone result (All (λ row. All IsEntry row.entries) rows.now) }
+{
+    let mut before = None;
+    let mut number = 1;
+    for row in rows {
+        if let Some(fault) = row.numbers().fault(head, before, number) {
+            return Some(fault);
+        }
+        before = Some(row.node);
+        number += 1;
+    }
+    None
+}
+
+impl PolicyTable {
+    /// The table of these parts, or the fault of parts that are none: `Range(0)` for the head, or `Order` or `Range` for the first
+    /// row that is out of order or has a number out of its range. It takes no memory.
+    pub fn from_parts(head: PolicyHead, rows: Vec<PolicyRow>) -> Result<PolicyTable, PolicyFault>
+        ensures made { IfOk result (λ table. table ≡ record { head = head; rows = rows.items }) }
+        ensures valid { IsOk result ↔ IsTable (record { head = head; rows = rows.items }) }
+        ensures fault { IfErr result (λ fault. parts_fault head rows.items ≡ Some fault) }
+    {
+        if !head.is_in_range() {
+            return Err(PolicyFault::Range(0));
+        }
+        if let Some(fault) = rows_fault(&head, &rows) {
+            return Err(fault);
+        }
+        Ok(PolicyTable { head, rows })
+    }
+
+    /// Whose policy it is.
+    pub fn head(&self) -> &PolicyHead
+        ensures value { result.now ≡ self.now.head }
+        ensures valid { IsTable self.now }
+    {
+        &self.head
+    }
+
+    /// The rows, in rising nodes.
+    #[tactic(auto, using(crate::proofs::Parts::table_bound))]
+    pub fn rows(&self) -> &[PolicyRow]
+        ensures value { result.now ≡ self.now.rows }
+        ensures valid { IsTable self.now }
+        ensures few { length self.now.rows ≤ self.now.head.nodes }
+    {
+        self.rows.as_slice()
+    }
+
+    /// The number of entries.
+    #[tactic(auto, using(crate::proofs::Parts::cells_bound))]
+    pub fn cells(&self) -> u64
+        ensures value { result ≡ cells self.now }
+        ensures within { cells self.now ≤ 65536 * length self.now.rows }
+    {
+        let mut count = 0;
+        for row in self.rows() {
+            count += row.entries.len() as u64;
+        }
+        count
+    }
+
+    /// The entry of a node for a budget in ticks. None exactly where no row has that node and budget.
+    pub fn entry(&self, node: u32, budget: u32) -> Option<PolicyEntry>
+        ensures { result ≡ entry_of self.now node budget }
+    {
+        self.row(node).and_then(|row| row.entry(budget))
+    }
+
+    fn row(&self, node: u32) -> Option<&PolicyRow>
+        ensures { option_copied result ≡ find (λ row. row.node == node) self.now.rows }
+    {
+        match place(&self.rows, node) {
+            Ok(place) => Some(&self.rows[place]),
+            Err(_) => None,
+        }
+    }
+}
+
+/// The place of the row of a node among rows in rising nodes, or else where such a row would stand.
+fn place(rows: &[PolicyRow], node: u32) -> Result<usize, usize>
+    requires { IsStrictlyIncreasing (nodes rows.now) }
+    ensures within { IfOk result (λ place. place < length rows.now) }
+    ensures found { IfOk result (λ place. find (λ row. row.node == node) rows.now ≡ slice_get rows.now place) }
+    ensures absent { OnErr result (find (λ row. row.node == node) rows.now ≡ None) }
+{
+    rows.binary_search_by_key(&node, |row| row.node)
+}
