@@ -11,3 +11,4 @@ pub mod Attained
 pub mod Gap
 pub mod Tables
 pub mod Fill
+pub mod Replaced

@@ -1,11 +1,17 @@
 // What is true of the definitions themselves. The functions do nothing: their contracts are the theorems.
-ghost use Rattle.std.specs.Prelude.{ℕ, ◌≡◌, ◌+◌, ◌*◌, ◌^◌, ◌≤◌, Option, Some, None};
+ghost use Rattle.std.specs.Prelude.{ℕ, ◌≡◌, ◌+◌, ◌*◌, ◌^◌, ◌≤◌, List, Option, Some, None};
 ghost use Rattle.sota_units.specs.Rounding.{ONE, floor_by, ceiling_by};
-ghost use Rattle.sota_network.specs.Network.{Net, IsNet};
+ghost use Rattle.sota_hist.specs.Time.{IsTime, total};
+ghost use Rattle.sota_network.specs.Network.{Net, IsNet, replaced};
 ghost use Rattle.sota_network.specs.Grid.{lo, hi, choice, value_from};
 ghost use Rattle.sota_network.specs.Trees.{Encloses, Fits, follow, follow_step, score};
 ghost use Rattle.sota_network.specs.Sound.{Sound};
 ghost use Rattle.sota_network.specs.Examples.{triangle, chain, chain_tree, fork, late_route, certain_route, twins};
+
+/// A network stays one when the time of an arc is replaced.
+pub fn edits_keep_networks()
+    ensures { (net : Net) (arc : ℕ) (time : List (ℕ × ℕ)) → IsNet net → IsTime time → total time ≡ net.scale → IsNet (replaced net arc time) }
+{}
 
 /// The values of the grid, and the tree of a rule, are what their recursion makes of those at smaller budgets.
 pub fn grid_recurs()
