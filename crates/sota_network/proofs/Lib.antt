@@ -12,3 +12,6 @@ pub mod Gap
 pub mod Tables
 pub mod Fill
 pub mod Replaced
+pub mod Reaching
+pub mod Below
+pub mod Cells
