@@ -1,8 +1,9 @@
 -- How large the region of an ask is: `origin` to `dest` with the budget `last`.
 use Rattle.std.specs.Prelude.{ℕ, suc, ◌+◌, ◌-◌, ◌&&◌, nat_le, nat_lt, List, length, map, Bool, false, Option, Some, if◌then◌else◌}
-use Rattle.std.specs.List.{count_by, filter, range_with_len, sum_by}
+use Rattle.std.specs.List.{count_by, filter, range_with_len, sum, sum_by}
 use Rattle.sota_hist.specs.Time.{within, least_tick, greatest_tick}
 use Rattle.sota_network.specs.Network.{Net}
+use Rattle.sota_network.specs.Numbers.{listed}
 use Rattle.sota_network.specs.Grid.{greatest}
 use Rattle.sota_network.specs.Reach.{in_region}
 use Rattle.sota_network.specs.declared.network.Arc.{Arc}
@@ -21,7 +22,7 @@ need net origin dest last i = greatest (map suc (filter (λ t. in_region net ori
 
 -- the number of all pairs
 abbrev pub table_cells : Net → ℕ → ℕ → ℕ → ℕ
-table_cells net origin dest last = sum_by (λ i. pairs_at net origin dest last i) (range_with_len 1 net.nodes)
+table_cells net origin dest last = sum (listed (λ i. pairs_at net origin dest last i) net.nodes)
 
 -- an arc with more pairs than these within the budget is broad, where its tail has a pair in the region
 abbrev pub NARROW : ℕ
