@@ -36,6 +36,25 @@ fn refused_lines(rt: HostRuntime) -> Result<(), Fail> {
     Ok(())
 }
 
+/// Whether a command is this ask.
+fn is_ask(command: &Command, want: &Ask3) -> bool {
+    match command {
+        Command::Ask(ask) => ask == want,
+        Command::Edit { .. } => false,
+    }
+}
+
+/// Whether a command is the edit of an arc by these pairs.
+fn is_edit(command: Command, want: ArcId, want_pairs: &[(Tick, Mass)]) -> bool {
+    match command {
+        Command::Edit { arc, pairs } => {
+            let pairs = Pairs::new(pairs.into_vec());
+            arc == want && pairs.as_slice() == want_pairs
+        }
+        Command::Ask(_) => false,
+    }
+}
+
 #[test]
 fn commands(rt: HostRuntime) -> Result<(), Fail> {
     for line in ["", " \t ", "#", "\t# ask 1 2 3", "#edit 1"] {
@@ -43,25 +62,15 @@ fn commands(rt: HostRuntime) -> Result<(), Fail> {
         assert!(rt; bytes.len() < 100);
         assert!(rt; read_line(rt.alloc(), bytes)?.is_none(), "{line}");
     }
-    match read_line(rt.alloc(), b"\task 01 2  65536 ")? {
-        Some(Command::Ask(ask)) => {
-            let want = Ask3 {
-                origin: 1,
-                dest: 2,
-                budget: 65536,
-            };
-            assert_eq!(rt; ask, want);
-        }
-        _ => assert!(rt; false),
-    }
-    match read_line(rt.alloc(), b"edit 3 5:1\t0:04 5:0")? {
-        Some(Command::Edit { arc, pairs }) => {
-            let want = [(Tick(5), Mass(1)), (Tick(0), Mass(4)), (Tick(5), Mass(0))];
-            assert_eq!(rt; arc, ArcId(3));
-            let pairs = Pairs::new(pairs.into_vec());
-            assert!(rt; pairs.as_slice() == want.as_slice());
-        }
-        _ => assert!(rt; false),
-    }
+    let ask = Ask3 {
+        origin: 1,
+        dest: 2,
+        budget: 65536,
+    };
+    let command = read_line(rt.alloc(), b"\task 01 2  65536 ")?.ok_or("an ask")?;
+    assert!(rt; is_ask(&command, &ask));
+    let pairs = [(Tick(5), Mass(1)), (Tick(0), Mass(4)), (Tick(5), Mass(0))];
+    let command = read_line(rt.alloc(), b"edit 3 5:1\t0:04 5:0")?.ok_or("an edit")?;
+    assert!(rt; is_edit(command, ArcId(3), &pairs));
     Ok(())
 }
