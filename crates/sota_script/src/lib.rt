@@ -1,0 +1,12 @@
+//! Scripts: what a line of one says.
+#![tactic(auto)]
+
+mod command;
+mod fault;
+mod line;
+#[cfg(test)]
+mod tests;
+
+pub use command::{Ask3, Command, Pairs};
+pub use fault::LineFault;
+pub use line::read_line;
