@@ -1,10 +1,12 @@
-//! What is proved of the definitions, apart from any code. A law is a function without a body, whose contract is its statement.
+//! What is proved of the definitions, apart from any code. A law is a function without a body,
+//! whose contract is its statement.
 ghost use Rattle.std.specs.Prelude.{ℕ, ◌≡◌, List, [], ◌∷◌, codes, Option, Some, None, Ok, Err};
 ghost use Rattle.sota_script.specs.Lines.{line_said, pair_of, IsPair};
 ghost use Rattle.sota_script.specs.declared.command.Command.TheVariants.{Edit, Ask};
 ghost use Rattle.sota_script.specs.declared.fault.LineFault.TheVariants.{Word, Count, Number};
 
-/// A field is a pair exactly where it is the texts of two numbers with a colon between, however it is parted.
+/// A field is a pair exactly where it is the texts of two numbers with a colon between, however it
+/// is parted.
 pub fn pairs_are_parted_once()
     ensures read { (field : List ℕ) (pair : ℕ × ℕ) → IsPair field pair → pair_of field ≡ Some pair }
     ensures only { (field : List ℕ) (pair : ℕ × ℕ) → pair_of field ≡ Some pair → IsPair field pair }
