@@ -1,5 +1,5 @@
 -- What a line of a script says.
-use Rattle.std.specs.Prelude.{ℕ, List, [], ◌∷◌, Bool, ◌==◌, slice_index, map, Option, Some, None, option_map, Result, Ok, Err, if◌then◌else◌, codes}
+use Rattle.std.specs.Prelude.{ℕ, ◌≡◌, List, [], ◌∷◌, ◌++◌, Bool, ◌==◌, slice_index, map, Option, Some, None, option_map, Result, Ok, Err, if◌then◌else◌, codes}
 use Rattle.std.specs.List.{before_first, after_first}
 use Rattle.std.specs.Str.{bytes_eq}
 use Rattle.sota_text.specs.Text.{fields_of, number_of}
@@ -42,6 +42,14 @@ is_colon byte = byte == 58
 -- nothing stands behind it, which is no number
 abbrev pub pair_of : List ℕ → Option (ℕ × ℕ)
 pair_of field = both (number_of (before_first is_colon field)) (number_of (after_first is_colon field))
+
+-- the same without a first colon: the texts of two numbers with a colon between
+pub record IsPair (field : List ℕ) (pair : ℕ × ℕ) : Type 0 where
+  pub tick : List ℕ
+  pub mass : List ℕ
+  pub parts : field ≡ tick ++ 58 ∷ mass
+  pub tick_is : number_of tick ≡ Some pair.0
+  pub mass_is : number_of mass ≡ Some pair.1
 
 abbrev pub pairs_of : List (List ℕ) → Option (List (ℕ × ℕ))
 pairs_of fields = all_there (map pair_of fields)

@@ -11,9 +11,11 @@ use sota_text::{Fields, Span, read_u32};
 use sota_units::{ArcId, Mass, Tick};
 use std::alloc::Global;
 
-/// The command of a line, which stands without what ends it. None exactly where the line is blank or a comment, which begins with `#`.
+/// The command of a line, which stands without what ends it. None exactly where the line is blank
+/// or a comment, whose first field begins with `#`.
 ///
-/// Commands are `edit ARC T:M ..`, with one pair or more, and `ask O D T`. Fields are parted by spaces and tabs.
+/// Commands are `edit ARC T:M ..`, with one pair or more, and `ask O D T`. Fields are parted by
+/// spaces and tabs.
 pub fn read_line(alloc: Global, line: &[u8]) -> Result<Option<Command>, LineFault>
     requires { length line.now < 2 ^ 32 }
     ensures { ReadsLine result (line_said line.now) }

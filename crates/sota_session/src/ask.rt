@@ -31,9 +31,11 @@ pub enum AskFault {
     NoDest,
     /// The budget exceeds 65,535 ticks.
     Budget,
-    /// So many pairs of a node and a budget are in the ask's region, more than a table may have. It never comes yet.
+    /// The pairs of a node and a budget in the ask's region are so many, more than a table may
+    /// have. It never comes yet.
     TableCells(u64),
-    /// So many are in its region at nodes with a broad arc, more than these may have. It never comes yet.
+    /// Those of the nodes with a broad arc are so many, more than these may have. It never comes
+    /// yet.
     BroadCells(u64),
     /// Memory was wanted, and there was none. It says nothing of the ask.
     NoMemory,

@@ -21,8 +21,8 @@ pub enum EditFault {
     NoMemory,
 }
 
-/// A network that is asked and edited, seen as the network that it is now. Nothing else of what was asked is kept: each ask is
-/// planned afresh.
+/// A network that is asked and edited, seen as the network that it is now. Nothing of what was
+/// asked is kept: each ask is planned afresh.
 #[derive(Drop)]
 pub struct Session {
     network: Network,
@@ -59,10 +59,12 @@ impl Session {
         self.network.is_valid();
     }
 
-    /// Answers an ask for the network as it is now. The refusals but NoMemory come exactly where `AskFault` says, the first of
-    /// them that stands, and NoMemory only where none of the first three does.
+    /// Answers an ask for the network as it is now. The refusals but NoMemory come exactly where
+    /// `AskFault` says, the first of them that stands, and NoMemory only where none of the first
+    /// three does. The network stays as it is.
     ///
-    /// `products` and `pushes` are for multiplications and table entries; nothing is promised of them yet.
+    /// `products` and `pushes` are to count multiplications and table entries; nothing is promised
+    /// of them yet.
     pub fn ask<M: Ledger, P: Ledger>(
         &mut self,
         ask: Ask,
@@ -80,8 +82,8 @@ impl Session {
         Ok(plan(self.alloc, &self.network, &ask)?)
     }
 
-    /// Gives an arc another time, which the asks that follow are answered by. NoArc exactly where the number is not from 1 to the
-    /// number of arcs. After a refusal the network is unchanged.
+    /// Gives an arc another time, by which the asks that follow are answered. NoArc exactly where
+    /// the number is not from 1 to the number of arcs. After a refusal the network is unchanged.
     pub fn edit(&mut self, arc: ArcId, time: Histogram) -> Result<(), EditFault>
         requires { total time ≡ self.old.scale }
         ensures { EditAnswers result self.old self.new arc time }
