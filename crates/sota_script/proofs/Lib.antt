@@ -1,1 +1,2 @@
-pub mod Colons
+mod Colons
+mod Few
