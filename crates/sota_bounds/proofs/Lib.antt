@@ -1,0 +1,6 @@
+pub mod Numbered
+pub mod Joined
+pub mod Settling
+pub mod Settled
+pub mod Queued
+pub mod Earliest
