@@ -84,18 +84,16 @@ falls n s a n' s' q' q same more most few =
     rw less (omega arith)
 
 -- what holds when the earliest visit has been taken out of the queue, its node settled, and what it leads to queued
-pub record IsStep (net : Net) (dest : ℕ) (direction : Direction) (times : List (Option ℕ)) (old rest queue : List Visit) (visit : Visit) : Type 0 where
+pub record IsStep (net : Net) (dest : ℕ) (direction : Direction) (times new_times : List (Option ℕ)) (old rest queue : List Visit) (visit : Visit) : Type 0 where
   pub moved : IsPermutation old (visit ∷ rest)
   pub earliest : All (λ (w : Visit). visit.time.0 ≤ w.time.0) old
   pub never : time_at times visit.node ≡ None
-  pub queued : IsPermutation (rest ++ next_visits net direction dest visit (set times (visit.node - 1) (Some visit.time.0))) queue
+  pub becomes : new_times ≡ set times (visit.node - 1) (Some visit.time.0)
+  pub queued : IsPermutation (rest ++ next_visits net direction dest visit new_times) queue
   pub soon : (limit : ℕ) → visit.time.0 + TICK_LIMIT ≤ limit → All (λ (w : Visit). w.time.0 ≤ limit) rest → All (λ (w : Visit). w.time.0 ≤ limit) queue
 
-module _ (net : Net) (valid : IsNet net) (dest : ℕ) (direction : Direction) (source : ℕ) (at_source : IsNode net source) (times : List (Option ℕ)) (old rest queue : List Visit) (visit : Visit)
-    (is : IsSearch net dest direction source times old) (step : IsStep net dest direction times old rest queue visit) where
-  abbrev pub new_times : List (Option ℕ)
-  new_times = set times (visit.node - 1) (Some visit.time.0)
-
+module _ (net : Net) (valid : IsNet net) (dest : ℕ) (direction : Direction) (source : ℕ) (at_source : IsNode net source) (times new_times : List (Option ℕ)) (old rest queue : List Visit) (visit : Visit)
+    (is : IsSearch net dest direction source times old) (step : IsStep net dest direction times new_times old rest queue visit) where
   among : Contains old visit
   among = Contains-permutation (visit ∷ rest) old visit (IsPermutation-sym old (visit ∷ rest) step.moved) (in-head visit rest)
 
@@ -106,13 +104,16 @@ module _ (net : Net) (valid : IsNet net) (dest : ℕ) (direction : Direction) (s
   within = omega (arith, waited.node, is.count)
 
   here : time_at new_times visit.node ≡ Some visit.time.0
-  here = settled-here times visit.node visit.time.0 within
+  here = ap (λ (ts : List (Option ℕ)). time_at ts visit.node) step.becomes ∙ settled-here times visit.node visit.time.0 within
 
   elsewhere : (i : ℕ) → IsNode net i → i ≢ visit.node → time_at new_times i ≡ time_at times i
-  elsewhere i node apart = settled-other times visit.node i visit.time.0 waited.node.0 node.0 apart
+  elsewhere i node apart = ap (λ (ts : List (Option ℕ)). time_at ts i) step.becomes ∙ settled-other times visit.node i visit.time.0 waited.node.0 node.0 apart
+
+  same-count : length new_times ≡ length times
+  same-count = ap length step.becomes ∙ length-set times (visit.node - 1) (Some visit.time.0)
 
   one-more : settled new_times ≡ settled times + 1
-  one-more = settled-more times visit.node visit.time.0 within step.never
+  one-more = ap settled step.becomes ∙ settled-more times visit.node visit.time.0 within step.never
 
   found : IsLeastJoin net dest direction source visit.node visit.time.0
   found = earliest-least net valid dest direction source at_source times old is visit among step.earliest step.never
@@ -185,7 +186,7 @@ module _ (net : Net) (valid : IsNet net) (dest : ℕ) (direction : Direction) (s
 
   pub settle : IsSearch net dest direction source new_times queue
   settle = record {
-    count = length-set times (visit.node - 1) (Some visit.time.0) ∙ is.count;
+    count = same-count ∙ is.count;
     waits = new-waits;
     least = new-least;
     first = goes-on source 0 at_source is.first;
@@ -195,7 +196,6 @@ module _ (net : Net) (valid : IsNet net) (dest : ℕ) (direction : Direction) (s
   -- the measure falls: one node less is open, and at most one visit an arc more
   pub fewer : (length new_times - settled new_times) * (length net.arcs + 1) + length queue < (length times - settled times) * (length net.arcs + 1) + length old
   fewer =
-      let count : length new_times ≡ length times = length-set times (visit.node - 1) (Some visit.time.0) in
       let most : settled new_times ≤ length new_times = count_by-le-length (λ (time : Option ℕ). is_some time) new_times in
       let after : length queue ≡ length (rest ++ next_visits net direction dest visit new_times) = length_permutation (rest ++ next_visits net direction dest visit new_times) queue step.queued in
       let parts : length (rest ++ next_visits net direction dest visit new_times) ≡ length rest + length (next_visits net direction dest visit new_times) = length-append rest (next_visits net direction dest visit new_times) in
@@ -203,4 +203,4 @@ module _ (net : Net) (valid : IsNet net) (dest : ℕ) (direction : Direction) (s
       filter_map-short (λ e. option_and_then (next_visit direction dest visit new_times) (arc_at net e)) (arcs_at direction net visit.node) in
       let few : length (arcs_at direction net visit.node) ≤ length net.arcs = numbers-short (λ (arc : Arc). start_of direction arc == visit.node) 1 net.arcs in
       let before : suc (length rest) ≡ length old = length_permutation old (visit ∷ rest) step.moved in
-      falls (length times) (settled times) (length net.arcs) (length new_times) (settled new_times) (length queue) (length old) count one-more (omega arith) (omega arith)
+      falls (length times) (settled times) (length net.arcs) (length new_times) (settled new_times) (length queue) (length old) same-count one-more (omega arith) (omega arith)

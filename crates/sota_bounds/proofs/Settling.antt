@@ -1,15 +1,15 @@
 -- Dijkstra's search: what is settled is least.
-use Rattle.std.proofs.Common.{ℕ, zero, suc, ◌≡◌, ◌≢◌, ◌+◌, ◌-◌, ◌*◌, ◌<◌, ◌≤◌, Bool, true, false, cond, List, [], ◌∷◌, ◌++◌, length, get_or, set, Option, None, Some, refl, sym, ◌∙◌, ap, subst, arith, inl, inr, ◌⊎◌, ⊎_elim}
+use Rattle.std.proofs.Common.{ℕ, zero, suc, ◌≡◌, ◌≢◌, ◌+◌, ◌-◌, ◌*◌, ◌<◌, ◌≤◌, Bool, true, false, not, cond, List, [], ◌∷◌, ◌++◌, length, get_or, set, Option, None, Some, refl, sym, ◌∙◌, ap, subst, arith, inl, inr, ◌⊎◌, ⊎_elim}
 use Rattle.std.specs.List.{All, Contains, count_by}
 use Rattle.std.specs.Option.{is_some}
 use Rattle.std.specs.List.Sorted.{IsPermutation}
-use Rattle.std.proofs.lemmas.List.{get_or-set_same, get_or-set_other}
+use Rattle.std.proofs.lemmas.List.{get_or-set_same, get_or-set_other, get_or_default}
 use Rattle.std.proofs.Math.ListN.{length-set}
 use Rattle.std.proofs.lemmas.List.Sums.{sum_by-set, count_by-le-length}
 use Rattle.std.proofs.lemmas.List.Elements.{All-contains, All-nil, All-head, All-tail, All-cons, All-append, All-weaker, Contains-append_left, Contains-append_right}
 use Rattle.std.proofs.lemmas.List.Sorted.{All-permutation, Contains-permutation, length_permutation}
 use Rattle.std.proofs.lemmas.Option.{none-some}
-use Rattle.std.proofs.lemmas.Bool.{cases_eq, cases_Bool}
+use Rattle.std.proofs.lemmas.Bool.{cases_eq, true≢false}
 use Rattle.sota_hist.specs.Time.{least_tick}
 use Rattle.sota_network.specs.Network.{Net, IsNet, IsNode, arc_at}
 use Rattle.sota_network.specs.declared.network.Arc.{Arc}
@@ -62,6 +62,18 @@ settled-more times i t h never =
     let before : ◌≡◌ {A = ℕ} (cond (is_some (time_at times i)) 1 0) 0 = rw never refl in
     omega (arith, one, before)
 
+-- what was read at the place of node i
+at-place : (times : List (Option ℕ)) (k : ℕ) (time : Option ℕ) → k < length times → time ≡ get_or times k time → get_or times k None ≡ time
+at-place times k time h is = get_or_default times k None time h ∙ sym is
+
+pub read-none : (times : List (Option ℕ)) (k i : ℕ) (time : Option ℕ) (never : Bool) → k ≡ i → k - 1 < length times → time ≡ get_or times (k - 1) time → is_some time ≡ not never → never ≡ true → time_at times i ≡ None
+read-none times k i None never at h is tells sure = ap (time_at times) (sym at) ∙ at-place times (k - 1) None h is
+read-none times k i (Some n) never at h is tells sure = absurd (true≢false (tells ∙ ap not sure))
+
+pub read-some : (times : List (Option ℕ)) (k i : ℕ) (time : Option ℕ) (never : Bool) → k ≡ i → k - 1 < length times → time ≡ get_or times (k - 1) time → is_some time ≡ not never → never ≡ false → IsSettled times i
+read-some times k i (Some n) never at h is tells sure = (n, ap (time_at times) (sym at) ∙ at-place times (k - 1) (Some n) h is)
+read-some times k i None never at h is tells sure = absurd (true≢false (sym (tells ∙ ap not sure)))
+
 -- the visit that was taken out is waited for no more, but its node is settled
 pub still-waits : (net : Net) (times : List (Option ℕ)) (old rest queue : List Visit) (visit : Visit) → IsPermutation old (visit ∷ rest) → ((w : Visit) → Contains rest w → Contains queue w)
     → IsSettled times visit.node → (i n : ℕ) → Waits old i n → IsSettled times i ⊎ Waits queue i n
@@ -70,6 +82,13 @@ still-waits net times old rest queue visit moved kept done i n waits =
     (λ (same : visit ≡ waits.0). inl (subst (IsSettled times) (ap (λ (w : Visit). w.node) same ∙ waits.2) done))
     (λ (among : Contains rest waits.0). inr (waits.0, kept waits.0 among, waits.2, waits.3))
     (in-cons visit rest waits.0 (Contains-permutation old (visit ∷ rest) waits.0 moved waits.1))
+
+-- the node that is visited has a place
+pub visited : (net : Net) (dest : ℕ) (direction : Direction) (source : ℕ) (times : List (Option ℕ)) (queue rest : List Visit) (visit : Visit) (k : ℕ) → IsSearch net dest direction source times queue
+    → IsPermutation queue (visit ∷ rest) → k ≡ visit.node → k - 1 < length times
+visited net dest direction source times queue rest visit k is moved at =
+    let wait = All-head (IsWait net dest direction source (settled times)) visit rest (All-permutation (IsWait net dest direction source (settled times)) queue (visit ∷ rest) moved is.waits) in
+    omega (arith, wait.node, is.count)
 
 module _ (net : Net) (valid : IsNet net) (dest : ℕ) (direction : Direction) (source : ℕ) (at_source : IsNode net source) where
   -- ---- a walk leaves what is settled over an arc, so that something waits no later than it ends
