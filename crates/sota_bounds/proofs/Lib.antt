@@ -4,3 +4,5 @@ pub mod Settling
 pub mod Settled
 pub mod Queued
 pub mod Earliest
+pub mod Spans
+pub mod Counted

@@ -1,12 +1,19 @@
 // The region of an ask.
-ghost use Rattle.std.specs.Prelude.{ℕ, ◌≡◌, ◌+◌, ◌-◌, ◌<◌, ◌≤◌, ◌^◌, length, slice_index_or, IfOk, IfErr, OnOk, None};
-ghost use Rattle.sota_network.specs.Network.{IsNode, NODE_LIMIT};
+ghost use Rattle.std.specs.Prelude.{ℕ, ◌≡◌, ◌-◌, ◌≤◌, length, slice_index_or, IfOk, IfErr, OnOk, None};
+ghost use Rattle.sota_network.specs.Network.{IsNode};
+ghost use Rattle.sota_network.specs.Numbers.{listed};
+ghost use Rattle.sota_network.specs.Grid.{BUDGET_LIMIT};
+ghost use Rattle.sota_network.specs.Walks.{IsLeastTime};
+ghost use Rattle.sota_network.specs.Region.{need, table_cells, broad_cells};
+ghost use Rattle.sota_bounds.specs.Faults.{region_fault, IsFault};
 
 use crate::RegionFault;
+use crate::cells::{broad_cells_of, needs_of, table_cells_of};
 use crate::least::{least_from, least_to};
 use crate::lists::{LeastTimes, Needs};
-use sota_network::{Arc, Network};
-use sota_units::{NoMemory, NodeId, Tick};
+use sota_network::Network;
+use sota_network::laws::region_by_least_times;
+use sota_units::{NoMemory, NodeId};
 use std::alloc::Global;
 
 /// The region of an ask: the pairs of a node and a budget from which the destination can be reached, and to which an origin
@@ -33,11 +40,8 @@ const TABLE_LIMIT: u64 = 60_000_000;
 /// The most broad cells that are planned for.
 const BROAD_LIMIT: u64 = 40_000_000;
 
-/// An arc with more pairs than these within the budget is broad.
-const NARROW: usize = 32;
-
-/// The region of an ask, whose budget is at most 65,535 ticks. TableCells exactly where the table cells exceed 60,000,000, else
-/// BroadCells exactly where the broad cells exceed 40,000,000. Near-linear in nodes, arcs and the pairs of the times.
+/// The region of an ask whose budget is at most 65,535 ticks. TableCells exactly where the table cells exceed 60,000,000, else
+/// BroadCells exactly where the broad cells exceed 40,000,000. Near-linear in nodes and arcs.
 pub fn region(
     alloc: Global,
     network: &Network,
@@ -45,19 +49,54 @@ pub fn region(
     dest: NodeId,
     budget: u32,
 ) -> Result<AskRegion, RegionFault>
+    requires origin { IsNode network.now origin }
+    requires dest { IsNode network.now dest }
+    requires budget { budget ≤ BUDGET_LIMIT }
+    ensures asked { IfOk result (λ made. (made.origin ≡ origin) × (made.dest ≡ dest) × (made.budget ≡ budget)) }
+    ensures nodes { IfOk result (λ made. length made.least ≡ network.now.nodes) }
+    ensures least { IfOk result (λ made. (i : ℕ) → IsNode network.now i → IsLeastTime network.now dest i dest (slice_index_or made.least (i - 1) None)) }
+    ensures need { IfOk result (λ made. made.need ≡ listed (need network.now origin dest budget) network.now.nodes) }
+    ensures table_cells { IfOk result (λ made. made.table_cells ≡ table_cells network.now origin dest budget) }
+    ensures broad_cells { IfOk result (λ made. made.broad_cells ≡ broad_cells network.now origin dest budget) }
+    ensures ok { OnOk result (region_fault network.now origin dest budget ≡ None) }
+    ensures fault { IfErr result (λ fault. IsFault (region_fault network.now origin dest budget) fault) }
 {
+    let made = whole_region(alloc, network, origin, dest, budget)?;
+    if made.table_cells > TABLE_LIMIT {
+        return Err(RegionFault::TableCells(made.table_cells));
+    }
+    if made.broad_cells > BROAD_LIMIT {
+        return Err(RegionFault::BroadCells(made.broad_cells));
+    }
+    Ok(made)
+}
+
+/// The region of an ask, however large it is.
+fn whole_region(
+    alloc: Global,
+    network: &Network,
+    origin: NodeId,
+    dest: NodeId,
+    budget: u32,
+) -> Result<AskRegion, NoMemory>
+    requires origin { IsNode network.now origin }
+    requires dest { IsNode network.now dest }
+    requires budget { budget ≤ BUDGET_LIMIT }
+    ensures asked { IfOk result (λ made. (made.origin ≡ origin) × (made.dest ≡ dest) × (made.budget ≡ budget)) }
+    ensures nodes { IfOk result (λ made. length made.least ≡ network.now.nodes) }
+    ensures least { IfOk result (λ made. (i : ℕ) → IsNode network.now i → IsLeastTime network.now dest i dest (slice_index_or made.least (i - 1) None)) }
+    ensures need { IfOk result (λ made. made.need ≡ listed (need network.now origin dest budget) network.now.nodes) }
+    ensures table_cells { IfOk result (λ made. made.table_cells ≡ table_cells network.now origin dest budget) }
+    ensures broad_cells { IfOk result (λ made. made.broad_cells ≡ broad_cells network.now origin dest budget) }
+{
+    region_by_least_times();
+    network.is_valid();
+    let _limit = network.nodes();
     let least = least_to(alloc, network, dest)?;
     let from = least_from(alloc, network, origin, dest)?;
-    let pairs = pairs_of(alloc, &least, &from, dest, budget)?;
-    let table_cells = sum_of(&pairs);
-    if table_cells > TABLE_LIMIT {
-        return Err(RegionFault::TableCells(table_cells));
-    }
-    let broad_cells = broad_cells_of(network, &pairs, budget);
-    if broad_cells > BROAD_LIMIT {
-        return Err(RegionFault::BroadCells(broad_cells));
-    }
     let need = needs_of(alloc, &least, &from, dest, budget)?;
+    let table_cells = table_cells_of(&least, &need);
+    let broad_cells = broad_cells_of(network, &least, &need, budget);
     Ok(AskRegion {
         origin,
         dest,
@@ -67,92 +106,4 @@ pub fn region(
         table_cells,
         broad_cells,
     })
-}
-
-/// For each node the number of its pairs.
-fn pairs_of(
-    alloc: Global,
-    least: &[Option<u64>],
-    from: &[Option<u64>],
-    dest: NodeId,
-    budget: u32,
-) -> Result<Vec<u32>, NoMemory>
-{
-    let mut pairs = Vec::with_capacity(alloc, least.len())?;
-    for (index, to) in least.iter().enumerate() {
-        let count = if index as u32 + 1 == dest.get() {
-            0
-        } else {
-            pairs_between(*to, from[index], budget)
-        };
-        pairs.push(count)?;
-    }
-    Ok(pairs)
-}
-
-/// The number of budgets between the time to the destination and what the time from the origin leaves.
-fn pairs_between(to: Option<u64>, from: Option<u64>, budget: u32) -> u32 {
-    match (to, from) {
-        (Some(to), Some(from)) => {
-            let left = (u64::from(budget) + 1).saturating_sub(to);
-            left.saturating_sub(from) as u32
-        }
-        _ => 0,
-    }
-}
-
-/// For each node its need.
-fn needs_of(
-    alloc: Global,
-    least: &[Option<u64>],
-    from: &[Option<u64>],
-    dest: NodeId,
-    budget: u32,
-) -> Result<Vec<u32>, NoMemory>
-{
-    let mut needs = Vec::with_capacity(alloc, least.len())?;
-    for (index, to) in least.iter().enumerate() {
-        let need = if index as u32 + 1 == dest.get() {
-            0
-        } else {
-            need_between(*to, from[index], budget)
-        };
-        needs.push(need)?;
-    }
-    Ok(needs)
-}
-
-/// One more than the greatest budget between the time to the destination and what the time from the origin leaves.
-fn need_between(to: Option<u64>, from: Option<u64>, budget: u32) -> u32 {
-    match (to, from) {
-        (Some(to), Some(from)) => {
-            let need = (u64::from(budget) + 1).saturating_sub(from);
-            if to < need { need as u32 } else { 0 }
-        }
-        _ => 0,
-    }
-}
-
-/// The sum of numbers.
-fn sum_of(numbers: &[u32]) -> u64 {
-    numbers.iter().map(|number| u64::from(*number)).sum()
-}
-
-/// What all arcs add to the broad cells.
-fn broad_cells_of(network: &Network, pairs: &[u32], budget: u32) -> u64 {
-    let mut cells = 0;
-    for arc in network.arcs() {
-        cells += broad_at(arc, pairs[arc.tail.get() as usize - 1], budget);
-    }
-    cells
-}
-
-/// What an arc with so many pairs at its tail adds to the broad cells.
-fn broad_at(arc: &Arc, pairs: u32, budget: u32) -> u64 {
-    let within = arc.time.within(Tick(budget));
-    if pairs == 0 || within.len() <= NARROW {
-        return 0;
-    }
-    let span = within[within.len() - 1].0.get() - within[0].0.get() + 1;
-    u64::from(pairs) + u64::from(span)
 }

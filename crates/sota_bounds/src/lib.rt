@@ -2,6 +2,7 @@
 #![tactic(auto)]
 
 mod ask;
+mod cells;
 mod fault;
 mod least;
 mod lists;
