@@ -1,0 +1,8 @@
+pub mod Numbered
+pub mod Joined
+pub mod Settling
+pub mod Settled
+pub mod Queued
+pub mod Earliest
+pub mod Spans
+pub mod Counted

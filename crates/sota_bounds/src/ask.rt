@@ -1,0 +1,109 @@
+// The region of an ask.
+ghost use Rattle.std.specs.Prelude.{ℕ, ◌≡◌, ◌-◌, ◌≤◌, length, slice_index_or, IfOk, IfErr, OnOk, None};
+ghost use Rattle.sota_network.specs.Network.{IsNode};
+ghost use Rattle.sota_network.specs.Numbers.{listed};
+ghost use Rattle.sota_network.specs.Grid.{BUDGET_LIMIT};
+ghost use Rattle.sota_network.specs.Walks.{IsLeastTime};
+ghost use Rattle.sota_network.specs.Region.{need, table_cells, broad_cells};
+ghost use Rattle.sota_bounds.specs.Faults.{region_fault, IsFault};
+
+use crate::RegionFault;
+use crate::cells::{broad_cells_of, needs_of, table_cells_of};
+use crate::least::{least_from, least_to};
+use crate::lists::{LeastTimes, Needs};
+use sota_network::Network;
+use sota_network::laws::region_by_least_times;
+use sota_units::{NoMemory, NodeId};
+use std::alloc::Global;
+
+/// The region of an ask: the pairs of a node and a budget from which the destination can be reached, and to which an origin
+/// that began with the whole budget can have come.
+#[derive(Drop)]
+pub struct AskRegion {
+    pub origin: NodeId,
+    pub dest: NodeId,
+    /// The whole budget, in ticks.
+    pub budget: u32,
+    /// The least time from each node to the destination.
+    pub least: LeastTimes,
+    /// One more than the greatest budget of each node's pairs, 0 where it has none.
+    pub need: Needs,
+    /// The number of pairs.
+    pub table_cells: u64,
+    /// For each broad arc the pairs of its tail and the span of its ticks within the budget.
+    pub broad_cells: u64,
+}
+
+/// The most table cells that are planned for.
+const TABLE_LIMIT: u64 = 60_000_000;
+
+/// The most broad cells that are planned for.
+const BROAD_LIMIT: u64 = 40_000_000;
+
+/// The region of an ask whose budget is at most 65,535 ticks. TableCells exactly where the table cells exceed 60,000,000, else
+/// BroadCells exactly where the broad cells exceed 40,000,000. Near-linear in nodes and arcs.
+pub fn region(
+    alloc: Global,
+    network: &Network,
+    origin: NodeId,
+    dest: NodeId,
+    budget: u32,
+) -> Result<AskRegion, RegionFault>
+    requires origin { IsNode network.now origin }
+    requires dest { IsNode network.now dest }
+    requires budget { budget ≤ BUDGET_LIMIT }
+    ensures asked { IfOk result (λ made. (made.origin ≡ origin) × (made.dest ≡ dest) × (made.budget ≡ budget)) }
+    ensures nodes { IfOk result (λ made. length made.least ≡ network.now.nodes) }
+    ensures least { IfOk result (λ made. (i : ℕ) → IsNode network.now i → IsLeastTime network.now dest i dest (slice_index_or made.least (i - 1) None)) }
+    ensures need { IfOk result (λ made. made.need ≡ listed (need network.now origin dest budget) network.now.nodes) }
+    ensures table_cells { IfOk result (λ made. made.table_cells ≡ table_cells network.now origin dest budget) }
+    ensures broad_cells { IfOk result (λ made. made.broad_cells ≡ broad_cells network.now origin dest budget) }
+    ensures ok { OnOk result (region_fault network.now origin dest budget ≡ None) }
+    ensures fault { IfErr result (λ fault. IsFault (region_fault network.now origin dest budget) fault) }
+{
+    let made = whole_region(alloc, network, origin, dest, budget)?;
+    if made.table_cells > TABLE_LIMIT {
+        return Err(RegionFault::TableCells(made.table_cells));
+    }
+    if made.broad_cells > BROAD_LIMIT {
+        return Err(RegionFault::BroadCells(made.broad_cells));
+    }
+    Ok(made)
+}
+
+/// The region of an ask, however large it is.
+fn whole_region(
+    alloc: Global,
+    network: &Network,
+    origin: NodeId,
+    dest: NodeId,
+    budget: u32,
+) -> Result<AskRegion, NoMemory>
+    requires origin { IsNode network.now origin }
+    requires dest { IsNode network.now dest }
+    requires budget { budget ≤ BUDGET_LIMIT }
+    ensures asked { IfOk result (λ made. (made.origin ≡ origin) × (made.dest ≡ dest) × (made.budget ≡ budget)) }
+    ensures nodes { IfOk result (λ made. length made.least ≡ network.now.nodes) }
+    ensures least { IfOk result (λ made. (i : ℕ) → IsNode network.now i → IsLeastTime network.now dest i dest (slice_index_or made.least (i - 1) None)) }
+    ensures need { IfOk result (λ made. made.need ≡ listed (need network.now origin dest budget) network.now.nodes) }
+    ensures table_cells { IfOk result (λ made. made.table_cells ≡ table_cells network.now origin dest budget) }
+    ensures broad_cells { IfOk result (λ made. made.broad_cells ≡ broad_cells network.now origin dest budget) }
+{
+    region_by_least_times();
+    network.is_valid();
+    let _limit = network.nodes();
+    let least = least_to(alloc, network, dest)?;
+    let from = least_from(alloc, network, origin, dest)?;
+    let need = needs_of(alloc, &least, &from, dest, budget)?;
+    let table_cells = table_cells_of(&least, &need);
+    let broad_cells = broad_cells_of(network, &least, &need, budget);
+    Ok(AskRegion {
+        origin,
+        dest,
+        budget,
+        least: LeastTimes::new(least),
+        need: Needs::new(need),
+        table_cells,
+        broad_cells,
+    })
+}

@@ -1,0 +1,118 @@
+// The needs and cells of a region, out of its least times.
+ghost use Rattle.std.specs.Prelude.{ℕ, ◌≡◌, ◌+◌, ◌*◌, ◌≤◌, length, IfOk};
+ghost use Rattle.std.specs.List.{All};
+ghost use Rattle.sota_hist.specs.Time.{IsTime};
+ghost use Rattle.sota_network.specs.Network.{IsNet, NODE_LIMIT};
+ghost use Rattle.sota_network.specs.Numbers.{listed};
+ghost use Rattle.sota_network.specs.Grid.{BUDGET_LIMIT};
+ghost use Rattle.sota_network.specs.Region.{need_between, broad_at};
+ghost use Rattle.sota_bounds.specs.Cells.{need_by, pairs_by, table_by, broad_by};
+
+use sota_network::{Arc, Network};
+use sota_units::{NoMemory, NodeId, Tick};
+use std::alloc::Global;
+
+/// An arc with more pairs than these within the budget is broad.
+const NARROW: usize = 32;
+
+/// The need of each node.
+pub(crate) fn needs_of(
+    alloc: Global,
+    least: &[Option<u64>],
+    from: &[Option<u64>],
+    dest: NodeId,
+    budget: u32,
+) -> Result<Vec<u32>, NoMemory>
+    requires budget { budget ≤ BUDGET_LIMIT }
+    requires nodes { length least.now ≤ NODE_LIMIT }
+    requires same { length from.now ≡ length least.now }
+    ensures value { IfOk result (λ needs. needs.items ≡ listed (need_by dest budget least.now from.now) (length least.now)) }
+    ensures nodes { IfOk result (λ needs. length needs.items ≡ length least.now) }
+    ensures within { IfOk result (λ needs. All (λ need. need ≤ BUDGET_LIMIT + 1) needs.items) }
+{
+    let mut needs = Vec::with_capacity(alloc, least.len())?;
+    for (index, to) in least.iter().enumerate() {
+        let need = if index as u32 + 1 == dest.get() {
+            0
+        } else {
+            need_between(*to, from[index], budget)
+        };
+        needs.push(need)?;
+    }
+    Ok(needs)
+}
+
+/// The need of a node that is not the destination.
+fn need_between(to: Option<u64>, from: Option<u64>, budget: u32) -> u32
+    requires { budget ≤ BUDGET_LIMIT }
+    ensures { result ≡ need_between budget to from }
+{
+    let (Some(to), Some(from)) = (to, from) else {
+        return 0;
+    };
+    let need = (u64::from(budget) + 1).saturating_sub(from);
+    if to < need { need as u32 } else { 0 }
+}
+
+/// The number of pairs of a node with this time to the destination and this need.
+fn pairs_of(to: Option<u64>, need: u32) -> u64
+    ensures value { result ≡ pairs_by to need }
+    ensures within { result ≤ need }
+{
+    match to {
+        Some(to) => u64::from(need).saturating_sub(to),
+        None => 0,
+    }
+}
+
+/// The number of pairs of all nodes.
+pub(crate) fn table_cells_of(least: &[Option<u64>], needs: &[u32]) -> u64
+    requires nodes { length least.now ≤ NODE_LIMIT }
+    requires same { length needs.now ≡ length least.now }
+    requires within { All (λ need. need ≤ BUDGET_LIMIT + 1) needs.now }
+    ensures { result ≡ table_by least.now needs.now (length least.now) }
+{
+    let mut cells = 0;
+    for (index, to) in least.iter().enumerate() {
+        cells += pairs_of(*to, needs[index]);
+    }
+    cells
+}
+
+/// What all arcs add to the broad cells.
+pub(crate) fn broad_cells_of(
+    network: &Network,
+    least: &[Option<u64>],
+    needs: &[u32],
+    budget: u32,
+) -> u64
+    requires valid { IsNet network.now }
+    requires budget { budget ≤ BUDGET_LIMIT }
+    requires nodes { length least.now ≡ network.now.nodes }
+    requires same { length needs.now ≡ length least.now }
+    requires within { All (λ need. need ≤ BUDGET_LIMIT + 1) needs.now }
+    ensures { result ≡ broad_by budget least.now needs.now network.now.arcs }
+{
+    let mut cells = 0;
+    for arc in network.arcs() {
+        let index = arc.tail.get() as usize - 1;
+        cells += broad_at(arc, pairs_of(least[index], needs[index]), budget);
+    }
+    cells
+}
+
+/// What an arc with so many pairs at its tail adds to the broad cells.
+fn broad_at(arc: &Arc, pairs: u64, budget: u32) -> u64
+    requires time { IsTime arc.now.time }
+    requires budget { budget ≤ BUDGET_LIMIT }
+    requires pairs { pairs ≤ BUDGET_LIMIT + 1 }
+    ensures value { result ≡ broad_at budget pairs arc.now }
+    ensures within { result ≤ 2 * (BUDGET_LIMIT + 1) }
+{
+    let within = arc.time.within(Tick(budget));
+    if pairs == 0 || within.len() <= NARROW {
+        return 0;
+    }
+    let span = within[within.len() - 1].0.get() - within[0].0.get() + 1;
+    pairs + u64::from(span)
+}

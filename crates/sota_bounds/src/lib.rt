@@ -1,0 +1,19 @@
+//! Least times in a road network, and the region of an ask: the nodes and budgets that can matter to it.
+#![tactic(auto)]
+
+mod ask;
+mod cells;
+mod fault;
+mod least;
+mod lists;
+
+mod search;
+
+pub use ask::{AskRegion, region};
+pub use fault::RegionFault;
+pub use least::{least_from, least_to};
+pub use lists::{LeastTimes, Needs};
+
+
+#[cfg(test)]
+mod tests;

@@ -1,0 +1,133 @@
+// Dijkstra's search: nodes are settled by rising times from or to a source.
+ghost use Rattle.std.specs.Prelude.{ℕ, ◌≡◌, ◌+◌, ◌-◌, ◌*◌, ◌^◌, ◌<◌, ◌≤◌, ◌++◌, length, slice_index_or, IfOk, IfSome, OnOk, None, Some};
+ghost use Rattle.std.specs.List.{All};
+ghost use Rattle.std.specs.List.Sorted.{IsPermutation};
+ghost use Rattle.std.specs.Ordering.{nat_cmp, ordering_then};
+ghost use Rattle.std.specs.BinaryHeap.{heap_items, heap_len, IsHeap};
+ghost use Rattle.sota_network.specs.Network.{IsNet, IsNode};
+ghost use Rattle.sota_bounds.specs.Search.{start_of, end_of, arcs_at, time_at, next_visit, next_visits, by_time, IsLeastBetween, TICK_LIMIT};
+
+use sota_network::{Arc, Network};
+use sota_units::{ArcId, NoMemory, NodeId};
+use std::alloc::Global;
+use std::cmp::Reverse;
+use std::collections::BinaryHeap;
+
+/// Which way the walks of a search go.
+#[derive(Clone, Copy)]
+pub(crate) enum Direction {
+    /// Along the arcs, from the source.
+    Along,
+    /// Against the arcs: the walks end at the source.
+    Against,
+}
+
+/// A node that a walk of this time joins to the source. The earlier visit is the greater one, since a heap hands the greatest
+/// out first.
+#[derive(Clone, Copy, PartialEq, Eq, PartialOrd, Ord)]
+struct Visit {
+    time: Reverse<u64>,
+    node: NodeId,
+}
+
+/// The least time between the source and each node, over walks whose arcs do not leave the destination: that of node `i` stands
+/// at index `i - 1`.
+pub(crate) fn least_times(
+    alloc: Global,
+    network: &Network,
+    direction: Direction,
+    source: NodeId,
+    dest: NodeId,
+) -> Result<Vec<Option<u64>>, NoMemory>
+    requires { IsNode network.now source }
+    ensures nodes { IfOk result (λ times. length times.items ≡ network.now.nodes) }
+    ensures least { IfOk result (λ times. (i : ℕ) → IsNode network.now i → IsLeastBetween network.now dest direction source i (time_at times.items i)) }
+{
+    network.is_valid();
+    let mut times = vec![in alloc; None; network.nodes() as usize]?;
+    let mut queue = BinaryHeap::new(alloc);
+    queue.push(Visit {
+        time: Reverse(0),
+        node: source,
+    })?;
+    while let Some(visit) = queue.pop() {
+        let index = visit.node.get() as usize - 1;
+        if times[index].is_none() {
+            times[index] = Some(visit.time.0);
+            queue_next(network, direction, dest, &visit, &times, &mut queue)?;
+        }
+    }
+    Ok(times)
+}
+
+/// Queues the visits to which one that was settled leads.
+fn queue_next(
+    network: &Network,
+    direction: Direction,
+    dest: NodeId,
+    visit: &Visit,
+    times: &[Option<u64>],
+    queue: &mut BinaryHeap<Visit>,
+) -> Result<(), NoMemory>
+    requires valid { IsNet network.now }
+    requires node { IsNode network.now visit.now.node }
+    requires time { visit.now.time.0 < 2 ^ 63 }
+    requires nodes { length times.now ≡ network.now.nodes }
+    requires order { IsHeap by_time (heap_items queue.old) }
+    ensures order { IsHeap by_time (heap_items queue.new) }
+    ensures queued { OnOk result (IsPermutation (heap_items queue.old ++ next_visits network.now direction dest visit.now times.now) (heap_items queue.new)) }
+    ensures soon { (limit : ℕ) → visit.now.time.0 + TICK_LIMIT ≤ limit → All (λ v. v.time.0 ≤ limit) (heap_items queue.old) → All (λ v. v.time.0 ≤ limit) (heap_items queue.new) }
+{
+    let arcs = network.arcs();
+    for number in direction.arcs_at(network, visit.node) {
+        let arc = &arcs[number.get() as usize - 1];
+        if let Some(next) = direction.next_visit(arc, dest, visit, times) {
+            queue.push(next)?;
+        }
+    }
+    Ok(())
+}
+
+impl Direction {
+    /// The numbers of the arcs over which a search leaves a node.
+    fn arcs_at<'a>(self, network: &'a Network, node: NodeId) -> &'a [ArcId]
+        requires { IsNode network.now node }
+        ensures { result.now ≡ arcs_at self network.now node }
+    {
+        match self {
+            Direction::Along => network.leaving(node),
+            Direction::Against => network.entering(node),
+        }
+    }
+
+    /// The end of an arc to which a search goes over it.
+    fn end_of(self, arc: &Arc) -> NodeId
+        ensures { result ≡ end_of self arc.now }
+    {
+        match self {
+            Direction::Along => arc.head,
+            Direction::Against => arc.tail,
+        }
+    }
+
+    /// The visit to which a settled one leads over an arc: none where the arc leaves the destination, or its end is settled.
+    fn next_visit(
+        self,
+        arc: &Arc,
+        dest: NodeId,
+        visit: &Visit,
+        times: &[Option<u64>],
+    ) -> Option<Visit>
+        requires end { (1 ≤ end_of self arc.now) × (end_of self arc.now ≤ length times.now) }
+        requires time { visit.now.time.0 < 2 ^ 63 }
+        ensures value { result ≡ next_visit self dest visit.now times.now arc.now }
+        ensures soon { IfSome result (λ next. next.time.0 ≤ visit.now.time.0 + TICK_LIMIT) }
+    {
+        let node = self.end_of(arc);
+        if arc.tail == dest || times[node.get() as usize - 1].is_some() {
+            return None;
+        }
+        let time = Reverse(visit.time.0 + u64::from(arc.time.least().get()));
+        Some(Visit { time, node })
+    }
+}
