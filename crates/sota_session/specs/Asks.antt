@@ -1,22 +1,39 @@
 -- Asks: why one is refused, and what answers the others.
 use Rattle.std.specs.Prelude.{ℕ, ◌≤◌, ◌&&◌, nat_le, Bool, Option, Some, None, if◌then◌else◌}
+use Rattle.std.specs.Option.{option_map, option_or}
 use Rattle.sota_network.specs.Network.{Net, IsNode}
 use Rattle.sota_network.specs.Grid.{lo, hi, choice, BUDGET_LIMIT}
+use Rattle.sota_bounds.specs.Faults.{region_fault}
+use Rattle.sota_bounds.specs.declared.fault.RegionFault.{RegionFault}
+use Rattle.sota_bounds.specs.declared.fault.RegionFault.TheVariants as regions
 use Rattle.sota_session.specs.declared.ask.Ask.{Ask}
 use Rattle.sota_session.specs.declared.ask.Answer.{Answer}
 use Rattle.sota_session.specs.declared.ask.AskFault.{AskFault}
-use Rattle.sota_session.specs.declared.ask.AskFault.TheVariants.{NoOrigin, NoDest, Budget}
+use Rattle.sota_session.specs.declared.ask.AskFault.TheVariants.{NoOrigin, NoDest, Budget, TableCells, BroadCells, NoMemory}
 
 -- the number of a node
 abbrev pub is_node : Net → ℕ → Bool
 is_node net node = nat_le 1 node && nat_le node net.nodes
 
--- the first cause for which an ask is refused, none where it is answered
-abbrev pub ask_fault : Net → Ask → Option AskFault
-ask_fault net ask =
+-- the first number of an ask that is out of range, none where all are in it
+abbrev pub range_fault : Net → Ask → Option AskFault
+range_fault net ask =
     if is_node net ask.origin then
     (if is_node net ask.dest then (if nat_le ask.budget BUDGET_LIMIT then None else Some Budget) else Some NoDest)
     else Some NoOrigin
+
+-- a region that is too large is one that cannot be planned for
+abbrev pub size_cause : RegionFault → AskFault
+size_cause (regions.TableCells count) = TableCells count
+size_cause (regions.BroadCells count) = BroadCells count
+size_cause regions.NoMemory = NoMemory
+
+abbrev pub size_fault : Net → Ask → Option AskFault
+size_fault net ask = option_map size_cause (region_fault net ask.origin ask.dest ask.budget)
+
+-- the first cause for which an ask is refused, none where it is answered
+abbrev pub ask_fault : Net → Ask → Option AskFault
+ask_fault net ask = option_or (range_fault net ask) (size_fault net ask)
 
 -- both ends are nodes, and the budget is one that a grid is asked for
 pub record IsInRange (net : Net) (ask : Ask) : Type 0 where

@@ -1,7 +1,9 @@
 // An ask, and its answer by the plain planner.
-ghost use Rattle.std.specs.Prelude.{◌≡◌, None, IfOk};
-ghost use Rattle.sota_session.specs.Asks.{is_node, ask_fault, answer_of};
+ghost use Rattle.std.specs.Prelude.{◌≡◌};
+ghost use Rattle.sota_session.specs.Asks.{is_node, range_fault};
+ghost use Rattle.sota_session.specs.Answers.{AskAnswers};
 
+use sota_bounds::{RegionFault, region};
 use sota_network::{Network, plain_grid};
 use sota_units::{ArcId, Grain, NoMemory, NodeId};
 use std::alloc::Global;
@@ -31,11 +33,9 @@ pub enum AskFault {
     NoDest,
     /// The budget exceeds 65,535 ticks.
     Budget,
-    /// The pairs of a node and a budget in the ask's region are so many, more than a table may
-    /// have. It never comes yet.
+    /// So many pairs of a node and a budget can matter to it, more than 60,000,000.
     TableCells(u64),
-    /// Those of the nodes with a broad arc are so many, more than these may have. It never comes
-    /// yet.
+    /// So many broad cells are in its region, more than 40,000,000.
     BroadCells(u64),
     /// Memory was wanted, and there was none. It says nothing of the ask.
     NoMemory,
@@ -51,6 +51,20 @@ impl From<NoMemory> for AskFault {
     }
 }
 
+impl From<RegionFault> for AskFault {
+    ghost use Rattle.sota_session.specs.Asks.{size_cause};
+
+    ghost from_gives = { λ region fault. fault ≡ size_cause region };
+
+    fn from(fault: RegionFault) -> Self {
+        match fault {
+            RegionFault::TableCells(count) => AskFault::TableCells(count),
+            RegionFault::BroadCells(count) => AskFault::BroadCells(count),
+            RegionFault::NoMemory => AskFault::NoMemory,
+        }
+    }
+}
+
 const BUDGET_LIMIT: u32 = 65_535;
 
 /// Whether a node of the network has this number.
@@ -60,9 +74,9 @@ fn has_node(network: &Network, node: NodeId) -> bool
     node.get() >= 1 && node.get() <= network.nodes()
 }
 
-/// The first cause for which the ask is refused.
-pub(crate) fn find_fault(network: &Network, ask: &Ask) -> Option<AskFault>
-    ensures { result ≡ ask_fault network.now ask.now }
+/// The first number of the ask that is out of range.
+fn find_range_fault(network: &Network, ask: &Ask) -> Option<AskFault>
+    ensures { result ≡ range_fault network.now ask.now }
 {
     if !has_node(network, ask.origin) {
         Some(AskFault::NoOrigin)
@@ -75,11 +89,14 @@ pub(crate) fn find_fault(network: &Network, ask: &Ask) -> Option<AskFault>
     }
 }
 
-/// Answers an ask by the grid of the whole network.
-pub(crate) fn plan(alloc: Global, network: &Network, ask: &Ask) -> Result<Answer, NoMemory>
-    requires { ask_fault network.now ask.now ≡ None }
-    ensures { IfOk result (λ answer. answer ≡ answer_of network.now ask.now) }
+/// Answers an ask by the grid of the whole network, where its region is not too large.
+pub(crate) fn answer_ask(alloc: Global, network: &Network, ask: &Ask) -> Result<Answer, AskFault>
+    ensures { AskAnswers result network.now ask.now }
 {
+    if let Some(fault) = find_range_fault(network, ask) {
+        return Err(fault);
+    }
+    region(alloc, network, ask.origin, ask.dest, ask.budget)?;
     let grid = plain_grid(alloc, network, ask.dest, ask.budget)?;
     Ok(Answer {
         lower: grid.lower(ask.origin, ask.budget),

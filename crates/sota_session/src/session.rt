@@ -4,7 +4,7 @@ ghost use Rattle.sota_hist.specs.Time.{total};
 ghost use Rattle.sota_network.specs.Network.{IsNet};
 ghost use Rattle.sota_session.specs.Answers.{AskAnswers, EditAnswers};
 
-use crate::ask::{Answer, Ask, AskFault, find_fault, plan};
+use crate::ask::{Answer, Ask, AskFault, answer_ask};
 use sota_hist::Histogram;
 use sota_network::Network;
 use sota_units::{ArcId, NoMemory, Steps};
@@ -76,10 +76,7 @@ impl Session {
     {
         let _ = products;
         let _ = pushes;
-        if let Some(fault) = find_fault(&self.network, &ask) {
-            return Err(fault);
-        }
-        Ok(plan(self.alloc, &self.network, &ask)?)
+        answer_ask(self.alloc, &self.network, &ask)
     }
 
     /// Gives an arc another time, by which the asks that follow are answered. NoArc exactly where
