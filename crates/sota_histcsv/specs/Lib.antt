@@ -1,2 +1,4 @@
 pub mod Answers
 pub mod Certain
+pub mod Records
+pub mod Histograms

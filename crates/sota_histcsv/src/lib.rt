@@ -2,6 +2,7 @@
 #![tactic(auto)]
 
 mod certain;
+mod entry;
 mod fault;
 
 pub use certain::certain_network;
