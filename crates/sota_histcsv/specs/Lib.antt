@@ -2,3 +2,5 @@ pub mod Answers
 pub mod Certain
 pub mod Records
 pub mod Histograms
+pub mod Left
+pub mod Kept

@@ -1,5 +1,5 @@
 -- The records of a histogram text: which they are, what each says, and what is wrong with it.
-use Rattle.std.specs.Prelude.{ℕ, List, [], ◌∷◌, ◌++◌, Bool, true, false, ◌==◌, ◌&&◌, not, nat_lt, nat_le, length, take, drop, Option, Some, None, if◌then◌else◌, codes}
+use Rattle.std.specs.Prelude.{ℕ, List, [], ◌∷◌, ◌++◌, Bool, ◌==◌, ◌&&◌, not, nat_lt, nat_le, length, take, drop, Option, Some, None, if◌then◌else◌, codes}
 use Rattle.std.specs.List.{filter_map, list_any, enumerate_from}
 use Rattle.std.specs.Option.{option_or}
 use Rattle.std.specs.Str.{bytes_eq}
@@ -51,19 +51,20 @@ scale_in field = do
 abbrev pub header_scale : List (List ℕ) → Option ℕ
 header_scale fields = do
   word ← three fields
-  scale ← scale_in word.2
-  if bytes_eq word.0 (codes "arc") && bytes_eq word.1 (codes "tick") then Some scale else None
+  if bytes_eq word.0 (codes "arc") && bytes_eq word.1 (codes "tick") then scale_in word.2 else None
 
 -- ---- what a record says
 
--- 'ARC,TICK,MASS', if its three fields are numbers
-abbrev pub entry_of : Row → Option Entry
-entry_of row = do
-  word ← three row.1
+-- 'ARC,TICK,MASS', if they are numbers
+abbrev pub entry_by : ℕ → List ℕ × List ℕ × List ℕ → Option Entry
+entry_by number word = do
   arc ← number_of word.0
   tick ← number_of word.1
   mass ← number_of word.2
-  Some (record { record = row.0; arc = arc; tick = tick; mass = mass })
+  Some (record { number = number; arc = arc; tick = tick; mass = mass })
+
+abbrev pub entry_of : Row → Option Entry
+entry_of row = three row.1 >>= entry_by row.0
 
 -- a mass of 0 is no chance, so such a record is dropped, whatever its tick
 abbrev pub kept : Option Entry → Option Entry
@@ -76,11 +77,14 @@ entries_in rows = filter_map (λ row. kept (entry_of row)) rows
 
 -- ---- what is wrong with a record
 
+abbrev pub is_arc : ℕ → ℕ → Bool
+is_arc arcs arc = nat_lt 0 arc && nat_le arc arcs
+
 abbrev pub entry_fault : ℕ → Entry → Option HistFileFault
 entry_fault arcs entry =
-    if nat_lt 0 entry.arc && nat_le entry.arc arcs
-    then (if not (entry.mass == 0) && (entry.tick == 0) then Some (ZeroTick entry.record) else None)
-    else Some (NoArc entry.record)
+    if is_arc arcs entry.arc
+    then (if not (entry.mass == 0) && (entry.tick == 0) then Some (ZeroTick entry.number) else None)
+    else Some (NoArc entry.number)
 
 abbrev pub number_fault : ℕ → ℕ → Option Entry → Option HistFileFault
 number_fault arcs number None = Some (Number number)
@@ -97,7 +101,7 @@ same_place one other = (one.arc == other.arc) && (one.tick == other.tick)
 -- a record that is not dropped repeats an earlier one that is not dropped
 abbrev pub repeat_fault : List Entry → Option Entry → Option HistFileFault
 repeat_fault before None = None
-repeat_fault before (Some entry) = if list_any (same_place entry) before then Some (RepeatedTick entry.record) else None
+repeat_fault before (Some entry) = if list_any (same_place entry) before then Some (RepeatedTick entry.number) else None
 
 -- what is wrong with a record that stands behind others, the first in this order
 abbrev pub record_fault : ℕ → List Row → Row → Option HistFileFault

@@ -4,9 +4,14 @@
 mod certain;
 mod entry;
 mod fault;
+mod histograms;
+mod records;
+mod table;
+mod times;
 
 pub use certain::certain_network;
 pub use fault::HistFileFault;
+pub use histograms::read_histograms;
 
 #[cfg(test)]
 mod tests;
