@@ -1,2 +1,4 @@
 pub mod Reading
 pub mod Keeping
+pub mod Timing
+pub mod Grouping

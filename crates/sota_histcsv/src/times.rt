@@ -83,8 +83,10 @@ fn time_of(
     match Histogram::build(alloc, scale, &pairs) {
         Ok(time) => Ok(time),
         Err(HistFault::NoMemory) => Err(HistFileFault::NoMemory),
-        // No tick is 0, and none stands twice.
-        Err(_) => Err(HistFileFault::Sum(number.get())),
+        Err(HistFault::Sum(_)) => Err(HistFileFault::Sum(number.get())),
+        // No tick of an entry is 0, and none stands twice.
+        Err(HistFault::ZeroTick(_)) => unreachable!(),
+        Err(HistFault::RepeatedTick(_)) => unreachable!(),
     }
 }
 
