@@ -1,4 +1,5 @@
 pub mod Reading
 pub mod Keeping
 pub mod Timing
+pub mod Telling
 pub mod Grouping

@@ -8,6 +8,7 @@ use Rattle.csv.specs.declared.parser.Action.{Action}
 use Rattle.csv.specs.declared.parser.Action.TheVariants as act
 use Rattle.csv.specs.declared.reader.Reader.{Reader}
 use Rattle.csv.proofs.ReadFacts.{rows-more, rows-end}
+use Rattle.sota_units.specs.declared.no_memory.NoMemory.{NoMemory}
 use Rattle.sota_histcsv.specs.Left.{Leaves, TakesRecord}
 use Rattle.sota_histcsv.specs.Records.{is_marked}
 
@@ -126,7 +127,7 @@ not_marked (a ∷ b ∷ c ∷ rest) e =
 -- ---- a reader takes a record
 
 pub taken : (old new : Reader (Bor (List ℕ))) (found : Bool) (fields : List (List ℕ)) (left : List (List (List ℕ))) → Leaves old left
-    → ReadRecord (λ s. Some s.now) old new found fields → new.first ≡ true → TakesRecord (Ok found) left new fields
+    → ReadRecord (λ s. Some s.now) old new found fields → new.first ≡ true → TakesRecord {E = NoMemory} (Ok found) left new fields
 unfolding Reached
 taken old new true fields [] leaves r first =
     let more = rows-more (λ (s : Bor (List ℕ)). Some s.now) old new fields default_config old.state leaves.text leaves.text [] leaves.config leaves.source (refl, refl) r in

@@ -4,8 +4,6 @@ use Rattle.std.specs.Borrow.{Bor}
 use Rattle.csv.specs.Reading.{Ready, AreRecords, default_config, source_of}
 use Rattle.csv.specs.declared.reader.Reader.{Reader}
 use Rattle.csv.specs.declared.reader.Trim.TheVariants as trim
-use Rattle.sota_histcsv.specs.declared.fault.HistFileFault.{HistFileFault}
-use Rattle.sota_histcsv.specs.declared.fault.HistFileFault.TheVariants.{NoMemory}
 
 -- a reader that reads with the defaults, trims nothing and knows no header has these records left
 pub record Leaves (reader : Reader (Bor (List ℕ))) (left : List (List (List ℕ))) : Type 0 where
@@ -17,9 +15,8 @@ pub record Leaves (reader : Reader (Bor (List ℕ))) (left : List (List (List �
   pub records : AreRecords default_config reader.state text left
 
 -- a reader takes the first of the records that are left, if any
-abbrev pub TakesRecord : Result Bool HistFileFault → List (List (List ℕ)) → Reader (Bor (List ℕ)) → List (List ℕ) → Type 0
+abbrev pub TakesRecord : {E : Type 0} → Result Bool E → List (List (List ℕ)) → Reader (Bor (List ℕ)) → List (List ℕ) → Type 0
 TakesRecord (Ok true) [] after fields = ⊥
 TakesRecord (Ok true) (first ∷ left) after fields = (fields ≡ first) × Leaves after left
 TakesRecord (Ok false) left after fields = left ≡ []
-TakesRecord (Err NoMemory) left after fields = Unit {0}
-TakesRecord (Err _) left after fields = ⊥
+TakesRecord (Err _) left after fields = Unit {0}

@@ -5,8 +5,8 @@ ghost use Rattle.sota_dimacs.specs.Lines.{three};
 ghost use Rattle.sota_histcsv.specs.Records.{is_marked, text_records};
 ghost use Rattle.sota_histcsv.specs.Left.{Leaves, TakesRecord};
 
-use crate::fault::HistFileFault;
 use csv::{ByteRecord, Reader, ReaderBuilder};
+use sota_units::NoMemory;
 use std::alloc::Global;
 
 /// A reader of all records of a text, the header too.
@@ -21,12 +21,12 @@ pub(crate) fn reader_of<'a>(alloc: Global, text: &'a [u8]) -> Reader<&'a [u8]>
 }
 
 /// Puts the next record into the row, and says whether there was one. `csv` fails for want of memory alone here.
-pub(crate) fn next_record(reader: &mut Reader<&[u8]>, row: &mut ByteRecord) -> Result<bool, HistFileFault>
+pub(crate) fn next_record(reader: &mut Reader<&[u8]>, row: &mut ByteRecord) -> Result<bool, NoMemory>
     ensures { (left : List (List (List ℕ))) → Leaves reader.old left → TakesRecord result left reader.new (fields_of row.new) }
 {
     match reader.read_byte_record(row) {
         Ok(found) => Ok(found),
-        Err(_) => Err(HistFileFault::NoMemory),
+        Err(_) => Err(NoMemory),
     }
 }
 
