@@ -85,11 +85,11 @@ on_left arcs scale number all (first ∷ left) after entries fields takes rest f
     record {
       fault = λ why e. sym here ∙ ap (λ fault. or_fault fault (rest_of arcs scale (entries ++ option_to_list (kept (entry_of (number, fields)))) (enumerate_from (number + 1) left))) e;
       more = λ none. record {
-          left = left;
-          leaves = takes.1;
-          rest = ap (λ fault. or_fault fault (rest_of arcs scale (entries ++ option_to_list (kept (entry_of (number, fields)))) (enumerate_from (number + 1) left))) (sym none) ∙ here;
-          few = omega arith;
-        };
+        left = left;
+        leaves = takes.1;
+        rest = ap (λ fault. or_fault fault (rest_of arcs scale (entries ++ option_to_list (kept (entry_of (number, fields)))) (enumerate_from (number + 1) left))) (sym none) ∙ here;
+        few = omega arith;
+      };
       few = omega arith;
     }
 

@@ -21,7 +21,10 @@ pub(crate) fn reader_of<'a>(alloc: Global, text: &'a [u8]) -> Reader<&'a [u8]>
 }
 
 /// Puts the next record into the row, and says whether there was one. `csv` fails for want of memory alone here.
-pub(crate) fn next_record(reader: &mut Reader<&[u8]>, row: &mut ByteRecord) -> Result<bool, NoMemory>
+pub(crate) fn next_record(
+    reader: &mut Reader<&[u8]>,
+    row: &mut ByteRecord,
+) -> Result<bool, NoMemory>
     ensures { (left : List (List (List ℕ))) → Leaves reader.old left → TakesRecord result left reader.new (fields_of row.new) }
 {
     match reader.read_byte_record(row) {

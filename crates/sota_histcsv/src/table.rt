@@ -1,5 +1,5 @@
 // One pass over the records of a histogram text.
-ghost use Rattle.std.specs.Prelude.{◌≡◌, ◌≤◌, ◌++◌, [], ◌∷◌, false, length, option_to_list, OnOk, IfOk, Some};
+ghost use Rattle.std.specs.Prelude.{◌≡◌, ◌≤◌, ◌<◌, ◌^◌, ◌++◌, [], ◌∷◌, false, length, option_to_list, OnOk, IfOk, Some};
 ghost use Rattle.std.specs.Option.{option_or};
 ghost use Rattle.csv.specs.Records.{fields_of};
 ghost use Rattle.sota_histcsv.specs.Records.{is_marked, text_records, scale_in, header_scale, entry_of, kept, is_arc, own_fault, repeat_fault};
@@ -37,6 +37,7 @@ pub(crate) fn read_table(alloc: Global, text: &[u8], arcs: u32) -> Result<Table,
     requires plain { is_marked text.now ≡ false }
     ensures told { MeansBy (λ table. record { scale = table.scale; entries = table.entries.items }) result (told arcs (text_records text.now)) }
     ensures kept { IfOk result (λ table. AreKept table.entries.items) }
+    ensures few { IfOk result (λ table. length table.entries.items < 2 ^ 32) }
 {
     let mut reader = reader_of(alloc, text);
     let mut row = ByteRecord::new(alloc);

@@ -31,7 +31,10 @@ fn records_give_times(rt: HostRuntime) -> Result<(), Fail> {
     let network = read_histograms(alloc, text, graph)?;
     assert_eq!(rt; network.scale().get(), 4);
     let arc = network.arc(ArcId(3)).ok_or("no third arc")?;
-    assert_eq!(rt; arc.time.pairs(), [(Tick(3), Mass(3)), (Tick(5), Mass(1))].as_slice());
+    assert_eq!(rt;
+        arc.time.pairs(),
+        [(Tick(3), Mass(3)), (Tick(5), Mass(1))].as_slice()
+    );
     let arc = network.arc(ArcId(2)).ok_or("no second arc")?;
     assert_eq!(rt; arc.time.pairs(), [(Tick(1), Mass(4))].as_slice());
     Ok(())

@@ -16,7 +16,11 @@ use sota_units::{ArcId, Mass, NoMemory, Scale, Tick};
 use std::alloc::Global;
 
 /// The arcs of a graph with the times that a table tells, where each has one.
-pub(crate) fn timed_arcs(alloc: Global, table: Table, raw: &[RawArc]) -> Result<Vec<Arc>, HistFileFault>
+pub(crate) fn timed_arcs(
+    alloc: Global,
+    table: Table,
+    raw: &[RawArc],
+) -> Result<Vec<Arc>, HistFileFault>
     requires few { length raw.now ≤ MAX_ARCS }
     requires kept { AreKept table.entries.items }
     requires room { length table.entries.items < 2 ^ 32 }
@@ -91,7 +95,12 @@ fn time_of(
 }
 
 /// All mass at the weight of an arc.
-fn certain_time(alloc: Global, scale: Scale, number: ArcId, weight: u32) -> Result<Histogram, HistFileFault>
+fn certain_time(
+    alloc: Global,
+    scale: Scale,
+    number: ArcId,
+    weight: u32,
+) -> Result<Histogram, HistFileFault>
     ensures fault { Adds result (time_fault scale number weight []) }
     ensures time { IfOk result (λ time. time ≡ time_by scale weight []) }
 {

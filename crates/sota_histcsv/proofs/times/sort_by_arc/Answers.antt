@@ -21,7 +21,7 @@ pub returns : goal.returns
 returns c =
     let stable = c.in_ok-sort_by_key.ensures.stable (λ (entry : Entry). entry.arc) (answers_always _ _ _ (λ a r q k. search rules)) in
     record {
-    rises = IsNonDecreasingBy-from_sort_by_key (λ (entry : Entry). entry.arc) _ c.in_ok-sort_by_key.ensures.sorted (λ a r q k. search rules);
-    same = λ arc. sym (filter_tied arc _) ∙ stable (record { number = 0; arc = arc; tick = 0; mass = 0 }) ∙ filter_tied arc _;
-    each = λ each. All-permutation IsKept _ _ c.in_ok-sort_by_key.ensures.permutation each;
+      rises = IsNonDecreasingBy-from_sort_by_key (λ (entry : Entry). entry.arc) _ c.in_ok-sort_by_key.ensures.sorted (λ a r q k. search rules);
+      same = λ arc. sym (filter_tied arc _) ∙ stable (record { number = 0; arc = arc; tick = 0; mass = 0 }) ∙ filter_tied arc _;
+      each = λ each. All-permutation IsKept _ _ c.in_ok-sort_by_key.ensures.permutation each;
     }
