@@ -1,7 +1,6 @@
 -- The time of an arc that has entries.
-use Rattle.std.proofs.Common.{◌≡◌, ℕ, ◌+◌, ◌<◌, ◌≤◌, ◌==◌, ◌&&◌, nat_lt, not, Bool, true, false, cond, List, [], ◌∷◌, length, Option, Some, None, refl, sym, ◌∙◌, ap, subst, arith}
+use Rattle.std.proofs.Common.{◌≡◌, ℕ, ◌≤◌, ◌==◌, ◌&&◌, nat_lt, not, Bool, true, false, cond, List, [], ◌∷◌, length, Some, None, refl, sym, ◌∙◌, ap, arith}
 use Rattle.std.specs.List.{All, filter, count_by, prefix_len}
-use Rattle.std.specs.Option.{option_map, option_or}
 use Rattle.std.proofs.lemmas.Bool.{lt-ltb, le-ltb}
 use Rattle.std.proofs.lemmas.List.Elements.{All-head, All-tail}
 use Rattle.sota_hist.specs.Time.{total, ticks}
@@ -9,9 +8,7 @@ use Rattle.sota_hist.specs.Build.{positive, rising, time_of, zero_tick, repeated
 use Rattle.sota_hist.specs.declared.fault.HistFault.{HistFault}
 use Rattle.sota_hist.specs.declared.fault.HistFault.TheVariants as hist
 use Rattle.sota_histcsv.specs.declared.entry.Entry.{Entry}
-use Rattle.sota_histcsv.specs.declared.fault.HistFileFault.{HistFileFault}
-use Rattle.sota_histcsv.specs.declared.fault.HistFileFault.TheVariants.{Sum}
-use Rattle.sota_histcsv.specs.Histograms.{pairs_of, time_by, time_fault}
+use Rattle.sota_histcsv.specs.Histograms.{pairs_of, time_by}
 use Rattle.sota_histcsv.specs.Kept.{IsKept}
 
 abbrev pub OncePer : List (ℕ × ℕ) → Type 0

@@ -1,8 +1,6 @@
 -- Answers of the readers, unless memory ran out.
-use Rattle.std.specs.Prelude.{◌≡◌, List, Option, Some, None, Result, Ok, Err}
+use Rattle.std.specs.Prelude.{◌≡◌, Option, Some, None, Result, Ok, Err}
 use Rattle.sota_network.specs.Network.{Net}
-use Rattle.sota_network.specs.declared.network.Arc.{Arc}
-use Rattle.sota_histcsv.specs.Histograms.{Told}
 use Rattle.sota_histcsv.specs.declared.fault.HistFileFault.{HistFileFault}
 use Rattle.sota_histcsv.specs.declared.fault.HistFileFault.TheVariants.{NoMemory}
 

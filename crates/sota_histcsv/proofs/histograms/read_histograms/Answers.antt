@@ -1,4 +1,4 @@
-use Rattle.std.proofs.Common.{◌≡◌, ◌≤◌, length, arith}
+use Rattle.std.proofs.Common.{arith}
 use Rattle.sota_histcsv.proofs.Whole.{are_arcs}
 use Rattle.sota_histcsv.proofs.histograms.read_histograms.Goals as goal
 

@@ -1,4 +1,4 @@
-use Rattle.std.proofs.Common.{◌∙◌, inr, sym}
+use Rattle.std.proofs.Common.{◌∙◌, inr}
 use Rattle.sota_histcsv.proofs.Reading.{not_marked, begun}
 use Rattle.sota_histcsv.proofs.records.reader_of.Goals as goal
 

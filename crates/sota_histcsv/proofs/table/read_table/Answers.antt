@@ -1,11 +1,10 @@
-use Rattle.std.proofs.Common.{◌≡◌, ◌+◌, ◌<◌, ◌≤◌, ◌∙◌, ℕ, List, [], ◌∷◌, ◌++◌, Option, None, Some, option_to_list, length, length-append, refl, arith, true, false, Vec, Global}
+use Rattle.std.proofs.Common.{◌+◌, ◌<◌, ◌≤◌, ℕ, List, [], ◌∷◌, ◌++◌, Option, None, Some, option_to_list, length, length-append, refl, arith}
 use Rattle.std.proofs.lemmas.Result.{err_from_is_err_and}
 use Rattle.std.proofs.lemmas.List.Elements.{All-nil}
-use Rattle.csv.specs.Records.{fields_of}
 use Rattle.sota_histcsv.specs.declared.entry.Entry.{Entry}
 use Rattle.sota_histcsv.specs.declared.table.Table.{Table}
 use Rattle.sota_histcsv.specs.Records.{text_records}
-use Rattle.sota_histcsv.specs.Kept.{IsKept, AreKept, ArePlaces}
+use Rattle.sota_histcsv.specs.Kept.{IsKept, AreKept}
 use Rattle.sota_histcsv.proofs.Reading.{few}
 use Rattle.sota_histcsv.proofs.Telling.{no_header, no_scale, begun, ended, goes_on}
 use Rattle.sota_histcsv.proofs.Grouping.{err_means}

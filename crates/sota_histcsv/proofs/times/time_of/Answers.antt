@@ -1,4 +1,4 @@
-use Rattle.std.proofs.Common.{◌≡◌, ◌∙◌, ap, rules}
+use Rattle.std.proofs.Common.{◌∙◌, ap, rules}
 use Rattle.sota_hist.specs.Build.{time_of}
 use Rattle.sota_histcsv.proofs.Timing.{some_time, never_zero, never_repeated}
 use Rattle.sota_histcsv.proofs.times.time_of.Goals as goal

@@ -1,5 +1,5 @@
 use Rattle.std.proofs.Common.{◌≡◌, ◌+◌, drop}
-use Rattle.sota_histcsv.specs.Histograms.{Told, timed}
+use Rattle.sota_histcsv.specs.Histograms.{timed}
 use Rattle.sota_histcsv.proofs.Grouping.{IsRest, timed_rest}
 use Rattle.sota_histcsv.proofs.times.timed_arcs.Given as goal
 
