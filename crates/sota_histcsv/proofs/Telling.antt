@@ -7,18 +7,14 @@ use Rattle.csv.specs.declared.reader.Reader.{Reader}
 use Rattle.sota_histcsv.specs.declared.entry.Entry.{Entry}
 use Rattle.sota_histcsv.specs.declared.fault.HistFileFault.{HistFileFault}
 use Rattle.sota_histcsv.specs.declared.fault.HistFileFault.TheVariants.{Header}
-use Rattle.sota_histcsv.specs.Records.{Row, numbered_rows, header_scale, entry_of, kept, entries_in, own_fault, repeat_fault, record_fault, first_fault}
+use Rattle.sota_histcsv.specs.Records.{Row, numbered_rows, header_scale, entry_of, kept, entries_in, record_fault, first_fault}
 use Rattle.sota_histcsv.specs.Histograms.{Told, or_fault, told_by, told}
 use Rattle.sota_units.specs.declared.no_memory.NoMemory.{NoMemory}
 use Rattle.sota_histcsv.specs.Left.{Leaves, TakesRecord}
 
--- what is wrong with a record behind these entries
-abbrev pub fault_behind : ℕ → List Entry → Row → Option HistFileFault
-fault_behind arcs entries row = option_or (own_fault arcs row) (repeat_fault entries (kept (entry_of row)))
-
 abbrev pub rest_of : ℕ → ℕ → List Entry → List Row → Result Told HistFileFault
 rest_of arcs scale entries [] = Ok (record { scale = scale; entries = entries })
-rest_of arcs scale entries (row ∷ rows) = or_fault (fault_behind arcs entries row) (rest_of arcs scale (entries ++ option_to_list (kept (entry_of row))) rows)
+rest_of arcs scale entries (row ∷ rows) = or_fault (record_fault arcs entries row) (rest_of arcs scale (entries ++ option_to_list (kept (entry_of row))) rows)
 
 one_entry : (o : Option Entry) → cons_option o [] ≡ option_to_list o
 one_entry (Some entry) = refl
@@ -41,7 +37,7 @@ rest_is arcs scale before (row ∷ rows) =
     ap (told_behind arcs scale (before ++ row ∷ []) rows) (sym (append_assoc before (row ∷ []) rows))
     ∙ rest_is arcs scale (before ++ row ∷ []) rows
     ∙ ap (λ entries. rest_of arcs scale entries rows) (entries_push before row) in
-    fault_first (record_fault arcs before row) (first_fault arcs (before ++ row ∷ []) rows) _ _ rest
+    fault_first (record_fault arcs (entries_in before) row) (first_fault arcs (before ++ row ∷ []) rows) _ _ rest
 
 -- ---- a reader goes through the records
 
@@ -73,15 +69,15 @@ ended arcs scale number all reader entries goes none = sym goes.rest ∙ ap (λ 
 
 -- what one record more makes of it
 pub record GoesOn (arcs scale number : ℕ) (all : List (List (List ℕ))) (after : Reader (Bor (List ℕ))) (entries : List Entry) (fields : List (List ℕ)) : Type 0 where
-  pub fault : (why : HistFileFault) → fault_behind arcs entries (number, fields) ≡ Some why → told arcs all ≡ Err why
-  pub more : fault_behind arcs entries (number, fields) ≡ None → Goes arcs scale all after (entries ++ option_to_list (kept (entry_of (number, fields)))) (number + 1)
+  pub fault : (why : HistFileFault) → record_fault arcs entries (number, fields) ≡ Some why → told arcs all ≡ Err why
+  pub more : record_fault arcs entries (number, fields) ≡ None → Goes arcs scale all after (entries ++ option_to_list (kept (entry_of (number, fields)))) (number + 1)
   pub few : number < length all
 
 on_left : (arcs scale number : ℕ) (all left : List (List (List ℕ))) (after : Reader (Bor (List ℕ))) (entries : List Entry) (fields : List (List ℕ)) → TakesRecord {E = NoMemory} (Ok true) left after fields
     → rest_of arcs scale entries (enumerate_from number left) ≡ told arcs all → length left + number ≤ length all → GoesOn arcs scale number all after entries fields
 on_left arcs scale number all [] after entries fields takes rest few = absurd takes
 on_left arcs scale number all (first ∷ left) after entries fields takes rest few =
-    let here : or_fault (fault_behind arcs entries (number, fields)) (rest_of arcs scale (entries ++ option_to_list (kept (entry_of (number, fields)))) (enumerate_from (number + 1) left)) ≡ told arcs all = rw (takes.0) rest in
+    let here : or_fault (record_fault arcs entries (number, fields)) (rest_of arcs scale (entries ++ option_to_list (kept (entry_of (number, fields)))) (enumerate_from (number + 1) left)) ≡ told arcs all = rw (takes.0) rest in
     record {
       fault = λ why e. sym here ∙ ap (λ fault. or_fault fault (rest_of arcs scale (entries ++ option_to_list (kept (entry_of (number, fields)))) (enumerate_from (number + 1) left))) e;
       more = λ none. record {

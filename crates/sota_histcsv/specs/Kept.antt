@@ -5,6 +5,12 @@ use Rattle.std.specs.List.Sorted.{IsNonDecreasingBy}
 use Rattle.std.specs.Ordering.{nat_cmp, ordering_then}
 use Rattle.std.specs.BTreeSet.{BTreeSet, contains}
 use Rattle.sota_histcsv.specs.declared.entry.Entry.{Entry}
+use Rattle.sota_histcsv.specs.declared.table.Table.{Table}
+use Rattle.sota_histcsv.specs.Histograms.{Told}
+
+-- what a table holds
+abbrev pub told_in : Table → Told
+told_in table = record { scale = table.scale; entries = table.entries.items }
 
 -- an entry gives mass to a tick of an arc, and none of the three numbers is 0
 pub record IsKept (entry : Entry) : Type 0 where

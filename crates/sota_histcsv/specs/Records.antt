@@ -103,11 +103,11 @@ abbrev pub repeat_fault : List Entry → Option Entry → Option HistFileFault
 repeat_fault before None = None
 repeat_fault before (Some entry) = if list_any (same_place entry) before then Some (RepeatedTick entry.number) else None
 
--- what is wrong with a record that stands behind others, the first in this order
-abbrev pub record_fault : ℕ → List Row → Row → Option HistFileFault
-record_fault arcs before row = option_or (own_fault arcs row) (repeat_fault (entries_in before) (kept (entry_of row)))
+-- what is wrong with a record, the first in this order, where those before it gave these entries
+abbrev pub record_fault : ℕ → List Entry → Row → Option HistFileFault
+record_fault arcs before row = option_or (own_fault arcs row) (repeat_fault before (kept (entry_of row)))
 
 -- the fault of the first record that has one, of records that stand behind others
 abbrev pub first_fault : ℕ → List Row → List Row → Option HistFileFault
 first_fault arcs before [] = None
-first_fault arcs before (row ∷ rows) = option_or (record_fault arcs before row) (first_fault arcs (before ++ row ∷ []) rows)
+first_fault arcs before (row ∷ rows) = option_or (record_fault arcs (entries_in before) row) (first_fault arcs (before ++ row ∷ []) rows)

@@ -9,7 +9,8 @@ use csv::ByteRecord;
 use sota_text::read_u32;
 use sota_units::{ArcId, Mass, Tick};
 
-/// A record of three numbers: its own number, counted from 0, the header, and the mass that it gives to a tick of an arc.
+/// A record of three numbers, with its own number, counted from 0, the header: the mass that it
+/// gives to a tick of an arc.
 #[derive(Clone, Copy, Debug, PartialEq, Eq)]
 pub(crate) struct Entry {
     pub(crate) number: u32,

@@ -14,9 +14,11 @@ use std::alloc::Global;
 
 /// The network of a graph whose arcs take the times that a histogram text tells, or the first fault.
 ///
-/// The text is CSV with the header `arc,tick,mass/Q`; each further record gives a mass over the scale `Q` to a tick of an arc, and
-/// a mass of 0 is dropped. An arc that no record gives mass takes its weight. A record's fault comes before those of arcs, the
-/// least record or arc first.
+/// The text is CSV with the header `arc,tick,mass/Q`; one byte order mark may stand before it. Each
+/// further record gives a mass over the scale `Q` to a tick of an arc, and a mass of 0 is dropped.
+/// An arc that no record gives mass takes its weight. A record's fault comes before those of arcs,
+/// the least record or arc first. It takes time linear in the text and the graph, but for sorting
+/// the records by their arcs and ticks.
 pub fn read_histograms(
     alloc: Global,
     bytes: &[u8],

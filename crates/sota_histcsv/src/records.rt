@@ -20,7 +20,8 @@ pub(crate) fn reader_of<'a>(alloc: Global, text: &'a [u8]) -> Reader<&'a [u8]>
         .from_reader(alloc, text)
 }
 
-/// Puts the next record into the row, and says whether there was one. `csv` fails for want of memory alone here.
+/// Puts the next record into the row, and says whether there was one. Each error that `csv` reports
+/// is taken for want of memory: it has no other cause over bytes in memory.
 pub(crate) fn next_record(
     reader: &mut Reader<&[u8]>,
     row: &mut ByteRecord,

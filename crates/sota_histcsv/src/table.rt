@@ -2,9 +2,9 @@
 ghost use Rattle.std.specs.Prelude.{◌≡◌, ◌≤◌, ◌<◌, ◌^◌, ◌++◌, [], ◌∷◌, false, length, option_to_list, OnOk, IfOk, Some};
 ghost use Rattle.std.specs.Option.{option_or};
 ghost use Rattle.csv.specs.Records.{fields_of};
-ghost use Rattle.sota_histcsv.specs.Records.{is_marked, text_records, scale_in, header_scale, entry_of, kept, is_arc, own_fault, repeat_fault};
-ghost use Rattle.sota_histcsv.specs.Histograms.{Told, told};
-ghost use Rattle.sota_histcsv.specs.Kept.{IsKept, AreKept, ArePlaces};
+ghost use Rattle.sota_histcsv.specs.Records.{is_marked, text_records, scale_in, header_scale, entry_of, kept, is_arc, record_fault, repeat_fault};
+ghost use Rattle.sota_histcsv.specs.Histograms.{told};
+ghost use Rattle.sota_histcsv.specs.Kept.{told_in, IsKept, AreKept, ArePlaces};
 ghost use Rattle.sota_histcsv.specs.Answers.{MeansBy, Adds};
 
 use crate::entry::Entry;
@@ -35,7 +35,7 @@ struct Seen {
 pub(crate) fn read_table(alloc: Global, text: &[u8], arcs: u32) -> Result<Table, HistFileFault>
     requires size { length text.now ≤ 67108864 }
     requires plain { is_marked text.now ≡ false }
-    ensures told { MeansBy (λ table. record { scale = table.scale; entries = table.entries.items }) result (told arcs (text_records text.now)) }
+    ensures told { MeansBy told_in result (told arcs (text_records text.now)) }
     ensures kept { IfOk result (λ table. AreKept table.entries.items) }
     ensures few { IfOk result (λ table. length table.entries.items < 2 ^ 32) }
 {
@@ -68,7 +68,7 @@ impl Seen {
     fn add(&mut self, arcs: u32, number: u32, row: &ByteRecord) -> Result<(), HistFileFault>
         requires kept { AreKept self.old.entries.items }
         requires places { ArePlaces self.old.places self.old.entries.items }
-        ensures fault { Adds result (option_or (own_fault arcs (number, fields_of row.now)) (repeat_fault self.old.entries.items (kept (entry_of (number, fields_of row.now))))) }
+        ensures fault { Adds result (record_fault arcs self.old.entries.items (number, fields_of row.now)) }
         ensures entries { OnOk result (self.new.entries.items ≡ self.old.entries.items ++ option_to_list (kept (entry_of (number, fields_of row.now)))) }
         ensures kept { OnOk result (AreKept self.new.entries.items) }
         ensures places { OnOk result (ArePlaces self.new.places self.new.entries.items) }

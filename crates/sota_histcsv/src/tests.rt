@@ -40,29 +40,53 @@ fn records_give_times(rt: HostRuntime) -> Result<(), Fail> {
     Ok(())
 }
 
+// Faulty texts for the triangle of roads.
 #[test]
 fn first_faults(rt: HostRuntime) -> Result<(), Fail> {
     let faults = [
-        ("", HistFileFault::Header),
-        ("arc,tick,mass/0\n", HistFileFault::Header),
-        ("arc,tick,mass/1000000001\n", HistFileFault::Header),
-        ("arc,tick,mass/4\n1,2", HistFileFault::Fields(1)),
-        ("arc,tick,mass/4\n1,2,x", HistFileFault::Number(1)),
-        ("arc,tick,mass/4\n9,0,0", HistFileFault::NoArc(1)),
-        ("arc,tick,mass/4\n1,0,1", HistFileFault::ZeroTick(1)),
+        (b"".as_slice(), HistFileFault::Header),
+        (b"arc,tick,mass/4\n1,2", HistFileFault::Fields(1)),
+        (b"arc,tick,mass/4\n1,2,x", HistFileFault::Number(1)),
+        (b"arc,tick,mass/4\n1,2,\xFF", HistFileFault::Number(1)),
+        (b"arc,tick,mass/4\n9,0,0", HistFileFault::NoArc(1)),
+        (b"arc,tick,mass/4\n1,0,1", HistFileFault::ZeroTick(1)),
         (
-            "arc,tick,mass/4\n1,2,1\n1,2,3\nx",
+            b"arc,tick,mass/4\n1,2,1\n1,2,3\nx",
             HistFileFault::RepeatedTick(2),
         ),
-        ("arc,tick,mass/4\n1,1,2\n1,2,1", HistFileFault::Sum(1)),
-        ("\u{FEFF}\u{FEFF}arc,tick,mass/4", HistFileFault::Header),
+        (
+            b"\xEF\xBB\xBF\xEF\xBB\xBFarc,tick,mass/4",
+            HistFileFault::Header,
+        ),
+        (b"arc,tick,mass/0\n", HistFileFault::Header),
+        (b"arc,tick,mass/1000000001\n", HistFileFault::Header),
+        (b"arc,tick,mass/4\n1,1,2\n1,2,1", HistFileFault::Sum(1)),
     ];
-    for (text, want) in faults {
+    for (bytes, want) in faults {
         let graph = read_graph(rt.alloc(), TRIANGLE)?;
-        let bytes = text.as_bytes();
         assert!(rt; bytes.len() < 1000);
         let fault = read_histograms(rt.alloc(), bytes, graph).err();
-        assert_eq!(rt; fault, Some(want), "{text}");
+        assert_eq!(rt; fault, Some(want), "{}", bytes.len());
+    }
+    Ok(())
+}
+
+// Neither arc has a good time: the least is told.
+#[test]
+fn least_arc_first(rt: HostRuntime) -> Result<(), Fail> {
+    let faults = [
+        (
+            b"arc,tick,mass/4\n2,1,1".as_slice(),
+            HistFileFault::ZeroTime(1),
+        ),
+        (b"arc,tick,mass/4\n1,1,1", HistFileFault::Sum(1)),
+        (b"\xEF\xBB\xBFarc,tick,mass/4", HistFileFault::ZeroTime(1)),
+    ];
+    for (bytes, want) in faults {
+        let graph = read_graph(rt.alloc(), b"p sp 2 2\na 1 2 0\na 1 2 0\n")?;
+        assert!(rt; bytes.len() < 1000);
+        let fault = read_histograms(rt.alloc(), bytes, graph).err();
+        assert_eq!(rt; fault, Some(want));
     }
     Ok(())
 }

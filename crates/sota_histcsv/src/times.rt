@@ -2,8 +2,8 @@
 ghost use Rattle.std.specs.Prelude.{ℕ, ◌≡◌, ◌≤◌, ◌<◌, ◌^◌, ◌==◌, [], length, IfOk, OnOk};
 ghost use Rattle.std.specs.List.{All, count_by, prefix_len};
 ghost use Rattle.sota_dimacs.specs.Graph.{MAX_ARCS};
-ghost use Rattle.sota_histcsv.specs.Histograms.{Told, timed, time_by, time_fault, pairs_of};
-ghost use Rattle.sota_histcsv.specs.Kept.{IsKept, AreKept, IsByArc};
+ghost use Rattle.sota_histcsv.specs.Histograms.{timed, time_by, time_fault, pairs_of};
+ghost use Rattle.sota_histcsv.specs.Kept.{told_in, IsKept, AreKept, IsByArc};
 ghost use Rattle.sota_histcsv.specs.Answers.{MeansBy, Adds};
 
 use crate::entry::Entry;
@@ -24,7 +24,7 @@ pub(crate) fn timed_arcs(
     requires few { length raw.now ≤ MAX_ARCS }
     requires kept { AreKept table.entries.items }
     requires room { length table.entries.items < 2 ^ 32 }
-    ensures { MeansBy (λ arcs. arcs.items) result (timed (record { scale = table.scale; entries = table.entries.items }) raw.now) }
+    ensures { MeansBy (λ arcs. arcs.items) result (timed (told_in table) raw.now) }
 {
     let Table { scale, mut entries } = table;
     sort_by_arc(&mut entries)?;
