@@ -1,2 +1,6 @@
 pub mod Answers
 pub mod Certain
+pub mod Records
+pub mod Histograms
+pub mod Left
+pub mod Kept

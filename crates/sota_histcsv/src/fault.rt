@@ -24,3 +24,14 @@ pub enum HistFileFault {
     /// Memory was wanted.
     NoMemory,
 }
+
+impl From<NoMemory> for HistFileFault {
+    ghost use Rattle.std.specs.Prelude.{◌≡◌};
+    ghost use Rattle.sota_histcsv.specs.declared.fault.HistFileFault.TheVariants.{NoMemory as OutOfMemory};
+
+    ghost from_gives = { λ _ fault. fault ≡ OutOfMemory };
+
+    fn from(_: NoMemory) -> Self {
+        HistFileFault::NoMemory
+    }
+}

@@ -2,10 +2,16 @@
 #![tactic(auto)]
 
 mod certain;
+mod entry;
 mod fault;
+mod histograms;
+mod records;
+mod table;
+mod times;
 
 pub use certain::certain_network;
 pub use fault::HistFileFault;
+pub use histograms::read_histograms;
 
 #[cfg(test)]
 mod tests;

@@ -1,4 +1,4 @@
-use Rattle.std.proofs.Common.{ℕ, suc, ◌≡◌, ◌==◌, take, drop, map}
+use Rattle.std.proofs.Common.{suc, ◌≡◌, ◌==◌, take, drop, map}
 use Rattle.sota_network.specs.Numbers.{first_number}
 use Rattle.sota_histcsv.specs.Certain.{certain_arc, zero_time}
 use Rattle.sota_histcsv.proofs.certain.certain_arcs.Given as goal

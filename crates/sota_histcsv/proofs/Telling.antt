@@ -1,0 +1,94 @@
+-- What the records that are left make of what was told so far.
+use Rattle.std.proofs.Common.{◌≡◌, ℕ, ◌+◌, ◌<◌, ◌≤◌, true, List, [], ◌∷◌, ◌++◌, length, Option, Some, None, Result, Ok, Err, option_to_list, refl, sym, ◌∙◌, ap, arith, append_assoc, append-nil, Bor}
+use Rattle.std.specs.List.{cons_option, enumerate_from}
+use Rattle.std.specs.Option.{option_or}
+use Rattle.std.proofs.lemmas.List.Elements.{filter_map-append}
+use Rattle.csv.specs.declared.reader.Reader.{Reader}
+use Rattle.sota_histcsv.specs.declared.entry.Entry.{Entry}
+use Rattle.sota_histcsv.specs.declared.fault.HistFileFault.{HistFileFault}
+use Rattle.sota_histcsv.specs.declared.fault.HistFileFault.TheVariants.{Header}
+use Rattle.sota_histcsv.specs.Records.{Row, numbered_rows, header_scale, entry_of, kept, entries_in, record_fault, first_fault}
+use Rattle.sota_histcsv.specs.Histograms.{Told, or_fault, told_by, told}
+use Rattle.sota_units.specs.declared.no_memory.NoMemory.{NoMemory}
+use Rattle.sota_histcsv.specs.Left.{Leaves, TakesRecord}
+
+abbrev pub rest_of : ℕ → ℕ → List Entry → List Row → Result Told HistFileFault
+rest_of arcs scale entries [] = Ok (record { scale = scale; entries = entries })
+rest_of arcs scale entries (row ∷ rows) = or_fault (record_fault arcs entries row) (rest_of arcs scale (entries ++ option_to_list (kept (entry_of row))) rows)
+
+one_entry : (o : Option Entry) → cons_option o [] ≡ option_to_list o
+one_entry (Some entry) = refl
+one_entry None = refl
+
+entries_push : (before : List Row) (row : Row) → entries_in (before ++ row ∷ []) ≡ entries_in before ++ option_to_list (kept (entry_of row))
+entries_push before row = filter_map-append (λ (row : Row). kept (entry_of row)) before (row ∷ []) ∙ ap (λ entries. entries_in before ++ entries) (one_entry (kept (entry_of row)))
+
+fault_first : (fault other : Option HistFileFault) (a b : Result Told HistFileFault) → or_fault other a ≡ b → or_fault (option_or fault other) a ≡ or_fault fault b
+fault_first (Some fault) other a b h = refl
+fault_first None other a b h = h
+
+abbrev pub told_behind : ℕ → ℕ → List Row → List Row → List Row → Result Told HistFileFault
+told_behind arcs scale before rows all = or_fault (first_fault arcs before rows) (Ok (record { scale = scale; entries = entries_in all }))
+
+rest_is : (arcs scale : ℕ) (before rows : List Row) → told_behind arcs scale before rows (before ++ rows) ≡ rest_of arcs scale (entries_in before) rows
+rest_is arcs scale before [] = ap (λ all. Ok (record { scale = scale; entries = entries_in all })) (append-nil before)
+rest_is arcs scale before (row ∷ rows) =
+    let rest : told_behind arcs scale (before ++ row ∷ []) rows (before ++ row ∷ rows) ≡ rest_of arcs scale (entries_in before ++ option_to_list (kept (entry_of row))) rows =
+    ap (told_behind arcs scale (before ++ row ∷ []) rows) (sym (append_assoc before (row ∷ []) rows))
+    ∙ rest_is arcs scale (before ++ row ∷ []) rows
+    ∙ ap (λ entries. rest_of arcs scale entries rows) (entries_push before row) in
+    fault_first (record_fault arcs (entries_in before) row) (first_fault arcs (before ++ row ∷ []) rows) _ _ rest
+
+-- ---- a reader goes through the records
+
+pub record Goes (arcs scale : ℕ) (all : List (List (List ℕ))) (reader : Reader (Bor (List ℕ))) (entries : List Entry) (number : ℕ) : Type 0 where
+  pub left : List (List (List ℕ))
+  pub leaves : Leaves reader left
+  pub rest : rest_of arcs scale entries (enumerate_from number left) ≡ told arcs all
+  pub few : length left + number ≤ length all
+
+pub no_header : (arcs : ℕ) (all : List (List (List ℕ))) → all ≡ [] → told arcs all ≡ Err Header
+no_header arcs all none = ap (told arcs) none
+
+pub no_scale : (arcs : ℕ) (all : List (List (List ℕ))) (reader : Reader (Bor (List ℕ))) (fields : List (List ℕ)) → TakesRecord {E = NoMemory} (Ok true) all reader fields → None ≡ header_scale fields → told arcs all ≡ Err Header
+no_scale arcs [] reader fields takes none = absurd takes
+no_scale arcs (header ∷ rows) reader fields takes none = ap (λ scale. told_by arcs scale (numbered_rows rows)) (ap header_scale (sym takes.0) ∙ sym none)
+
+pub begun : (arcs scale : ℕ) (all : List (List (List ℕ))) (reader : Reader (Bor (List ℕ))) (fields : List (List ℕ)) → TakesRecord {E = NoMemory} (Ok true) all reader fields → Some scale ≡ header_scale fields → Goes arcs scale all reader [] 1
+begun arcs scale [] reader fields takes some = absurd takes
+begun arcs scale (header ∷ rows) reader fields takes some = record {
+  left = rows;
+  leaves = takes.1;
+  rest = sym (rest_is arcs scale [] (numbered_rows rows)) ∙ ap (λ scale. told_by arcs scale (numbered_rows rows)) (some ∙ ap header_scale takes.0);
+  few = omega arith;
+}
+
+pub ended : (arcs scale number : ℕ) (all : List (List (List ℕ))) (reader : Reader (Bor (List ℕ))) (entries : List Entry) (goes : Goes arcs scale all reader entries number)
+    → goes.left ≡ [] → told arcs all ≡ Ok (record { scale = scale; entries = entries })
+ended arcs scale number all reader entries goes none = sym goes.rest ∙ ap (λ left. rest_of arcs scale entries (enumerate_from number left)) none
+
+-- what one record more makes of it
+pub record GoesOn (arcs scale number : ℕ) (all : List (List (List ℕ))) (after : Reader (Bor (List ℕ))) (entries : List Entry) (fields : List (List ℕ)) : Type 0 where
+  pub fault : (why : HistFileFault) → record_fault arcs entries (number, fields) ≡ Some why → told arcs all ≡ Err why
+  pub more : record_fault arcs entries (number, fields) ≡ None → Goes arcs scale all after (entries ++ option_to_list (kept (entry_of (number, fields)))) (number + 1)
+  pub few : number < length all
+
+on_left : (arcs scale number : ℕ) (all left : List (List (List ℕ))) (after : Reader (Bor (List ℕ))) (entries : List Entry) (fields : List (List ℕ)) → TakesRecord {E = NoMemory} (Ok true) left after fields
+    → rest_of arcs scale entries (enumerate_from number left) ≡ told arcs all → length left + number ≤ length all → GoesOn arcs scale number all after entries fields
+on_left arcs scale number all [] after entries fields takes rest few = absurd takes
+on_left arcs scale number all (first ∷ left) after entries fields takes rest few =
+    let here : or_fault (record_fault arcs entries (number, fields)) (rest_of arcs scale (entries ++ option_to_list (kept (entry_of (number, fields)))) (enumerate_from (number + 1) left)) ≡ told arcs all = rw (takes.0) rest in
+    record {
+      fault = λ why e. sym here ∙ ap (λ fault. or_fault fault (rest_of arcs scale (entries ++ option_to_list (kept (entry_of (number, fields)))) (enumerate_from (number + 1) left))) e;
+      more = λ none. record {
+        left = left;
+        leaves = takes.1;
+        rest = ap (λ fault. or_fault fault (rest_of arcs scale (entries ++ option_to_list (kept (entry_of (number, fields)))) (enumerate_from (number + 1) left))) (sym none) ∙ here;
+        few = omega arith;
+      };
+      few = omega arith;
+    }
+
+pub goes_on : (arcs scale number : ℕ) (all : List (List (List ℕ))) (reader after : Reader (Bor (List ℕ))) (entries : List Entry) (fields : List (List ℕ)) (goes : Goes arcs scale all reader entries number)
+    → TakesRecord {E = NoMemory} (Ok true) goes.left after fields → GoesOn arcs scale number all after entries fields
+goes_on arcs scale number all reader after entries fields goes takes = on_left arcs scale number all goes.left after entries fields takes goes.rest goes.few
