@@ -15,7 +15,8 @@ use Rattle.sota_network.specs.declared.network.Arc.{Arc}
 use Rattle.sota_bounds.specs.Search.{start_of, end_of, arcs_at, time_at, next_visit, next_visits, TICK_LIMIT}
 use Rattle.sota_bounds.specs.declared.search.Direction.{Direction}
 use Rattle.sota_bounds.specs.declared.search.Visit.{Visit}
-use Rattle.sota_bounds.proofs.Numbered.{in-head, arc-valid, start-valid, end-valid, IsOut, outs, out-has, filter_map-all, filter_map-has, filter_map-short, numbers-short}
+use Rattle.sota_network.proofs.Recursion.{arc-valid}
+use Rattle.sota_bounds.proofs.Numbered.{in-head, start-valid, end-valid, IsOut, outs, out-has, filter_map-all, filter_map-has, filter_map-short, numbers-short}
 use Rattle.sota_bounds.proofs.Joined.{Joins, IsLeastJoin, joins-step}
 use Rattle.sota_bounds.proofs.Settling.{settled, IsWait, IsSettled, Waits, IsSearch, settled-here, settled-other, settled-more, still-waits, earliest-least}
 

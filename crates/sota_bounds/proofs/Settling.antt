@@ -16,7 +16,8 @@ use Rattle.sota_network.specs.declared.network.Arc.{Arc}
 use Rattle.sota_bounds.specs.Search.{start_of, end_of, time_at, IsLeastBetween, TICK_LIMIT}
 use Rattle.sota_bounds.specs.declared.search.Direction.{Direction}
 use Rattle.sota_bounds.specs.declared.search.Visit.{Visit}
-use Rattle.sota_bounds.proofs.Numbered.{in-cons, in-head, arc-valid, start-valid, end-valid, outs, out-has, filter_map-all, filter_map-has}
+use Rattle.sota_network.proofs.Recursion.{arc-valid}
+use Rattle.sota_bounds.proofs.Numbered.{in-cons, in-head, start-valid, end-valid, outs, out-has, filter_map-all, filter_map-has}
 use Rattle.sota_bounds.proofs.Joined.{Joins, IsLeastJoin, least-some, least-none, joins-start, joins-step, joins-kept}
 
 -- how many nodes are settled

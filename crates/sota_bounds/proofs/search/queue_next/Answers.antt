@@ -8,7 +8,8 @@ use Rattle.sota_network.specs.Network.{Net, IsNode, arc_at}
 use Rattle.sota_network.specs.declared.network.Arc.{Arc}
 use Rattle.sota_bounds.specs.Search.{end_of, arcs_at, next_visit}
 use Rattle.sota_bounds.specs.declared.search.Visit.{Visit}
-use Rattle.sota_bounds.proofs.Numbered.{out-read, arc-place, arc-valid, end-valid}
+use Rattle.sota_network.proofs.Recursion.{arc-valid}
+use Rattle.sota_bounds.proofs.Numbered.{out-read, arc-place, end-valid}
 use Rattle.sota_bounds.proofs.Queued.{queued-more, queued-same}
 use Rattle.sota_bounds.proofs.search.queue_next.Goals.{in-Some+in_ok-push, in_default}
 use Rattle.sota_bounds.proofs.search.queue_next.Goals as goal
