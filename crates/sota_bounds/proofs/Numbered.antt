@@ -2,9 +2,9 @@
 use Rattle.std.proofs.Common.{ℕ, zero, suc, ◌≡◌, ◌+◌, ◌-◌, ◌<◌, ◌≤◌, ◌==◌, Bool, true, false, List, [], ◌∷◌, length, get_or, slice_get, Option, None, Some, refl, sym, ◌∙◌, ap, subst, arith, inl, inr, ◌⊎◌, ⊎_elim}
 use Rattle.std.specs.List.{All, Contains, filter_map, cons_option}
 use Rattle.std.proofs.lemmas.Bool.{cases_Bool, eqb-true, eq-eqb}
-use Rattle.std.proofs.lemmas.Option.{none-some, slice_get_within, get_or_from_slice_get}
+use Rattle.std.proofs.lemmas.Option.{none-some}
 use Rattle.std.proofs.lemmas.List.Elements.{All-nil, All-cons}
-use Rattle.sota_network.specs.Network.{Net, IsNet, IsNode, IsArc, arc_at}
+use Rattle.sota_network.specs.Network.{Net, IsNode, IsArc, arc_at}
 use Rattle.sota_network.specs.Numbers.{numbers}
 use Rattle.sota_network.specs.declared.network.Arc.{Arc}
 use Rattle.sota_bounds.specs.Search.{start_of, end_of, arcs_at}
