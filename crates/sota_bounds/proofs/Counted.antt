@@ -1,5 +1,5 @@
 -- What the needs and counts are, by the law of the region.
-use Rattle.std.proofs.Common.{ℕ, zero, suc, ◌≡◌, ◌≢◌, ◌+◌, ◌-◌, ◌<◌, ◌≤◌, ◌==◌, Bool, true, false, List, [], ◌∷◌, length, get_or, Option, None, Some, refl, sym, ◌∙◌, ap, subst, arith, ⊎_elim}
+use Rattle.std.proofs.Common.{ℕ, ◌≡◌, ◌≢◌, ◌+◌, ◌<◌, ◌≤◌, List, [], ◌∷◌, length, Option, None, Some, refl, sym, ◌∙◌, ap, arith, ⊎_elim}
 use Rattle.std.specs.List.{All, sum, sum_by}
 use Rattle.std.proofs.lemmas.Bool.{cases_lt, cases_eq, eq-eqb, ne_eqb, le-leb, lt-leb, lt-ltb, le-ltb}
 use Rattle.std.proofs.lemmas.List.Sums.{sum_by-cons}
@@ -9,11 +9,10 @@ use Rattle.sota_network.specs.Numbers.{listed}
 use Rattle.sota_network.specs.Walks.{IsLeastTime}
 use Rattle.sota_network.specs.Region.{pairs_at, need, table_cells, broad_cells, broad_at, pairs_between, need_between}
 use Rattle.sota_network.specs.declared.network.Arc.{Arc}
-use Rattle.sota_network.proofs.Listed.{listed-at, listed-agree, All-listed, length-listed}
+use Rattle.sota_network.proofs.Listed.{listed-at, listed-agree, All-listed}
 use Rattle.sota_bounds.specs.Search.{time_at}
 use Rattle.sota_bounds.specs.Cells.{need_at, need_by, pairs_by, pairs_kept, table_by, broad_by}
 use Rattle.sota_bounds.specs.Faults.{TABLE_LIMIT, BROAD_LIMIT, cells_fault}
-use Rattle.sota_bounds.specs.declared.fault.RegionFault.{RegionFault}
 use Rattle.sota_bounds.specs.declared.fault.RegionFault.TheVariants.{TableCells, BroadCells}
 
 -- over plain numbers

@@ -1,8 +1,8 @@
 -- Walks between the source of a search and a node, in the order in which the search meets their arcs.
-use Rattle.std.proofs.Common.{ℕ, zero, suc, ◌≡◌, ◌≢◌, ◌+◌, ◌≤◌, Option, None, Some, refl, sym, subst, arith}
+use Rattle.std.proofs.Common.{ℕ, ◌≡◌, ◌≢◌, ◌+◌, ◌≤◌, None, Some, refl, subst, arith}
 use Rattle.sota_hist.specs.Time.{least_tick}
 use Rattle.sota_network.specs.Network.{Net, arc_at}
-use Rattle.sota_network.specs.Walks.{Walk, empty, step, IsLeastTime}
+use Rattle.sota_network.specs.Walks.{Walk, empty, step}
 use Rattle.sota_network.specs.declared.network.Arc.{Arc}
 use Rattle.sota_bounds.specs.Search.{start_of, end_of, IsLeastBetween}
 use Rattle.sota_bounds.specs.declared.search.Direction.{Direction}

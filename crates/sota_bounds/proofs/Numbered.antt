@@ -2,9 +2,9 @@
 use Rattle.std.proofs.Common.{ℕ, zero, suc, ◌≡◌, ◌+◌, ◌-◌, ◌<◌, ◌≤◌, ◌==◌, Bool, true, false, List, [], ◌∷◌, length, get_or, slice_get, Option, None, Some, refl, sym, ◌∙◌, ap, subst, arith, inl, inr, ◌⊎◌, ⊎_elim}
 use Rattle.std.specs.List.{All, Contains, filter_map, cons_option}
 use Rattle.std.proofs.lemmas.Bool.{cases_Bool, eqb-true, eq-eqb}
-use Rattle.std.proofs.lemmas.Option.{none-some, slice_get_within, get_or_from_slice_get}
+use Rattle.std.proofs.lemmas.Option.{none-some}
 use Rattle.std.proofs.lemmas.List.Elements.{All-nil, All-cons}
-use Rattle.sota_network.specs.Network.{Net, IsNet, IsNode, IsArc, arc_at}
+use Rattle.sota_network.specs.Network.{Net, IsNode, IsArc, arc_at}
 use Rattle.sota_network.specs.Numbers.{numbers}
 use Rattle.sota_network.specs.declared.network.Arc.{Arc}
 use Rattle.sota_bounds.specs.Search.{start_of, end_of, arcs_at}
@@ -98,11 +98,6 @@ numbers-short test n (x ∷ xs) =
     ⊎_elim (λ (yes : test x ≡ true). rw yes (omega (arith, numbers-short test (suc n) xs))) (λ (no : test x ≡ false). rw no (omega (arith, numbers-short test (suc n) xs))) (cases_Bool (test x))
 
 -- ---- the arcs of a network
-pub arc-valid : (net : Net) → IsNet net → (e : ℕ) (arc : Arc) → arc_at net e ≡ Some arc → IsArc net arc
-arc-valid net valid zero arc is = absurd (none-some arc is)
-arc-valid net valid (suc k) arc is =
-    subst (λ (a : Arc). IsArc net a) (get_or_from_slice_get net.arcs k arc arc is) (valid.arcs k arc (slice_get_within net.arcs k arc is))
-
 pub start-valid : (net : Net) (direction : Direction) (arc : Arc) → IsArc net arc → IsNode net (start_of direction arc)
 start-valid net Along arc is = is.tail
 start-valid net Against arc is = is.head

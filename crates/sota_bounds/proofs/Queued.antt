@@ -1,10 +1,10 @@
 -- A loop over the arcs at a node: what has been queued so far.
-use Rattle.std.proofs.Common.{ℕ, ◌≡◌, ◌+◌, ◌<◌, ◌≤◌, List, [], ◌∷◌, ◌++◌, length, get_or, take, Option, None, Some, refl, sym, ◌∙◌, ap, subst, append_assoc, append-nil, rules, arith}
-use Rattle.std.specs.List.{All, filter_map}
+use Rattle.std.proofs.Common.{ℕ, ◌≡◌, ◌+◌, ◌<◌, List, [], ◌∷◌, ◌++◌, length, get_or, take, Option, None, Some, sym, ◌∙◌, ap, append_assoc, append-nil}
+use Rattle.std.specs.List.{filter_map}
 use Rattle.std.specs.List.Sorted.{IsPermutation}
 use Rattle.std.proofs.lemmas.List.{take_more}
-use Rattle.std.proofs.lemmas.List.Elements.{filter_map-append, All-cons}
-use Rattle.std.proofs.lemmas.List.Sorted.{IsPermutation-push_more, All-permutation}
+use Rattle.std.proofs.lemmas.List.Elements.{filter_map-append}
+use Rattle.std.proofs.lemmas.List.Sorted.{IsPermutation-push_more}
 
 module _ {Y : Type 0} (f : ℕ → Option Y) (xs : List ℕ) (k e : ℕ) (within : k < length xs) (is : e ≡ get_or xs k e) where
   more : filter_map f (take (k + 1) xs) ≡ filter_map f (take k xs) ++ filter_map f (e ∷ [])

@@ -1,6 +1,6 @@
 -- One more node is settled, and the visits to which it leads are queued.
-use Rattle.std.proofs.Common.{ℕ, zero, suc, ◌≡◌, ◌≢◌, ◌+◌, ◌-◌, ◌*◌, ◌<◌, ◌≤◌, ◌==◌, ◌||◌, Bool, true, false, cond, List, [], ◌∷◌, ◌++◌, length, get_or, set, Option, None, Some, refl, sym, ◌∙◌, ap, subst, arith, inl, inr, ◌⊎◌, ⊎_elim, length-append}
-use Rattle.std.specs.List.{All, Contains, filter_map}
+use Rattle.std.proofs.Common.{ℕ, suc, ◌≡◌, ◌≢◌, ◌+◌, ◌-◌, ◌*◌, ◌<◌, ◌≤◌, ◌==◌, ◌||◌, Bool, true, false, cond, List, ◌∷◌, ◌++◌, length, set, Option, None, Some, refl, sym, ◌∙◌, ap, subst, arith, inl, inr, ◌⊎◌, ⊎_elim, length-append}
+use Rattle.std.specs.List.{All, Contains}
 use Rattle.std.specs.Option.{is_some, option_and_then}
 use Rattle.std.specs.List.Sorted.{IsPermutation}
 use Rattle.std.proofs.Math.ListN.{length-set}
@@ -15,7 +15,8 @@ use Rattle.sota_network.specs.declared.network.Arc.{Arc}
 use Rattle.sota_bounds.specs.Search.{start_of, end_of, arcs_at, time_at, next_visit, next_visits, TICK_LIMIT}
 use Rattle.sota_bounds.specs.declared.search.Direction.{Direction}
 use Rattle.sota_bounds.specs.declared.search.Visit.{Visit}
-use Rattle.sota_bounds.proofs.Numbered.{in-head, arc-valid, start-valid, end-valid, IsOut, outs, out-has, filter_map-all, filter_map-has, filter_map-short, numbers-short}
+use Rattle.sota_network.proofs.Recursion.{arc-valid}
+use Rattle.sota_bounds.proofs.Numbered.{in-head, start-valid, end-valid, IsOut, outs, out-has, filter_map-all, filter_map-has, filter_map-short, numbers-short}
 use Rattle.sota_bounds.proofs.Joined.{Joins, IsLeastJoin, joins-step}
 use Rattle.sota_bounds.proofs.Settling.{settled, IsWait, IsSettled, Waits, IsSearch, settled-here, settled-other, settled-more, still-waits, earliest-least}
 

@@ -8,32 +8,106 @@ use sota_units::{Mass, NoMemory, NodeId, Scale, Tick};
 use std::alloc::Global;
 use std::test::Fail;
 
-/// The network of arcs that take certain times, each a tail, a head and a tick.
-fn certain_network(
-    alloc: Global,
-    nodes: u32,
-    ends: &[(u32, u32, u32)],
-) -> Result<Network, NoMemory> {
+/// An arc that takes the same time always.
+fn certain_arc(alloc: Global, tail: u32, head: u32, tick: u32) -> Result<Arc, NoMemory>
+    requires { 1 ≤ tick }
+    ensures { IfOk result (λ arc. arc ≡ record { tail = tail; head = head; time = (tick, 1) ∷ [] }) }
+{
+    let time = Histogram::certain(alloc, Scale::ONE, Tick(tick))?;
+    Ok(Arc {
+        tail: NodeId(tail),
+        head: NodeId(head),
+        time,
+    })
+}
+
+/// From 1 to 3 by way of 2, or straight by one of two arcs; and from 3 back to 1.
+fn certain_triangle(alloc: Global) -> Result<Network, NoMemory>
+    ensures { IfOk result (λ network. network.nodes ≡ 4) }
+{
     let mut arcs = Vec::new(alloc);
-    for (tail, head, tick) in ends {
-        arcs.push(Arc {
-            tail: NodeId(*tail),
-            head: NodeId(*head),
-            time: Histogram::certain(alloc, Scale::ONE, Tick(*tick))?,
-        })?;
+    arcs.push(certain_arc(alloc, 1, 2, 1)?)?;
+    arcs.push(certain_arc(alloc, 2, 3, 1)?)?;
+    arcs.push(certain_arc(alloc, 1, 3, 5)?)?;
+    arcs.push(certain_arc(alloc, 1, 3, 3)?)?;
+    arcs.push(certain_arc(alloc, 3, 4, 1)?)?;
+    Network::build(alloc, 4, Scale::ONE, arcs)
+}
+
+// No walk to node 4 but through the destination.
+#[test]
+fn times_of_a_triangle(rt: HostRuntime) -> Result<(), Fail> {
+    let network = certain_triangle(rt.alloc())?;
+    let to = least_to(rt.alloc(), &network, NodeId(3))?;
+    assert!(rt; to.as_slice() == [Some(2), Some(1), Some(0), None].as_slice());
+    let from = least_from(rt.alloc(), &network, NodeId(1), NodeId(3))?;
+    assert!(rt; from.as_slice() == [Some(0), Some(1), Some(2), None].as_slice());
+    Ok(())
+}
+
+#[test]
+fn region_of_a_triangle(rt: HostRuntime) -> Result<(), Fail> {
+    let network = certain_triangle(rt.alloc())?;
+    let made = region(rt.alloc(), &network, NodeId(1), NodeId(3), 3)?;
+    assert!(rt; made.need.as_slice() == [4, 3, 0, 0].as_slice());
+    assert_eq!(rt; (made.table_cells, made.broad_cells), (4, 0));
+    let times = made.least.into_vec();
+    assert!(rt; times.as_slice() == [Some(2), Some(1), Some(0), None].as_slice());
+    Ok(())
+}
+
+/// From 2 to 1 straight, or by way of each of the nodes from 3 on.
+fn fan(alloc: Global, nodes: u32) -> Result<Network, NoMemory>
+    requires { (2 ≤ nodes) × (nodes ≤ 1000) }
+    ensures { IfOk result (λ network. network.nodes ≡ nodes) }
+{
+    let mut arcs = Vec::new(alloc);
+    arcs.push(certain_arc(alloc, 2, 1, 1)?)?;
+    for node in 3..nodes + 1 {
+        arcs.push(certain_arc(alloc, 2, node, 1)?)?;
+        arcs.push(certain_arc(alloc, node, 1, 1)?)?;
     }
     Network::build(alloc, nodes, Scale::ONE, arcs)
 }
 
 #[test]
-fn triangle(rt: HostRuntime) -> Result<(), Fail> {
-    let network = certain_network(rt.alloc(), 3, &[(1, 2, 1), (2, 3, 1), (1, 3, 3)])?;
-    let to = least_to(rt.alloc(), &network, NodeId(3))?;
-    assert!(rt; to.as_slice() == [Some(2), Some(1), Some(0)].as_slice());
-    let from = least_from(rt.alloc(), &network, NodeId(1), NodeId(3))?;
-    assert!(rt; from.as_slice() == [Some(0), Some(1), Some(2)].as_slice());
-    let all = region(rt.alloc(), &network, NodeId(1), NodeId(3), 3)?;
-    assert!(rt; all.need.as_slice() == [4, 3, 0].as_slice());
-    assert_eq!(rt; (all.table_cells, all.broad_cells), (4, 0));
+fn too_many_table_cells(rt: HostRuntime) -> Result<(), Fail> {
+    let network = fan(rt.alloc(), 1000)?;
+    let fault = region(rt.alloc(), &network, NodeId(2), NodeId(1), 65535).err();
+    assert_eq!(rt; fault, Some(RegionFault::TableCells(65_468_467)));
+    Ok(())
+}
+
+/// Two nodes, and so many arcs between them that take each of 1 to 33 ticks with the same chance.
+fn broad_pair(alloc: Global, count: u32) -> Result<Network, Fail>
+    requires { count ≤ 1000 }
+    ensures { IfOk result (λ network. network.nodes ≡ 2) }
+{
+    let mut pairs = Vec::new(alloc);
+    for tick in 1..34 {
+        pairs.push((Tick(tick), Mass(1)))?;
+    }
+    let scale = Scale::new(33).ok_or("a scale")?;
+    let mut arcs = Vec::new(alloc);
+    for _ in 0..count {
+        let time = Histogram::build(alloc, scale, &pairs)?;
+        arcs.push(Arc {
+            tail: NodeId(1),
+            head: NodeId(2),
+            time,
+        })?;
+    }
+    Ok(Network::build(alloc, 2, scale, arcs)?)
+}
+
+#[test]
+fn broad_cells(rt: HostRuntime) -> Result<(), Fail> {
+    let network = broad_pair(rt.alloc(), 611)?;
+    let fault = region(rt.alloc(), &network, NodeId(1), NodeId(2), 65535).err();
+    assert_eq!(rt; fault, Some(RegionFault::BroadCells(40_062_048)));
+    let narrow = region(rt.alloc(), &network, NodeId(1), NodeId(2), 32)?;
+    assert_eq!(rt; narrow.broad_cells, 0);
+    let broad = region(rt.alloc(), &network, NodeId(1), NodeId(2), 33)?;
+    assert_eq!(rt; broad.broad_cells, 40_326);
     Ok(())
 }

@@ -1,5 +1,4 @@
-use Rattle.std.proofs.Common.{ℕ, ◌≡◌, length, sym, ◌∙◌, ap, List, Option}
-use Rattle.sota_network.specs.Network.{Net}
+use Rattle.std.proofs.Common.{ℕ, ◌≡◌, length, ◌∙◌, ap, List, Option}
 use Rattle.sota_network.specs.Numbers.{listed}
 use Rattle.sota_bounds.specs.Cells.{need_by, table_by, broad_by}
 use Rattle.sota_bounds.proofs.Counted.{IsAsked, needs-are, table-is, broad-is}

@@ -1,6 +1,5 @@
 use Rattle.std.proofs.Common.{ℕ, ◌≡◌, ◌≤◌, List, length, sym, subst, ◌∙◌, ap, arith}
 use Rattle.std.specs.List.{All}
-use Rattle.sota_network.specs.Numbers.{listed}
 use Rattle.sota_network.proofs.Listed.{length-listed}
 use Rattle.sota_bounds.specs.Cells.{need_by}
 use Rattle.sota_bounds.proofs.Counted.{needs-small}

@@ -1,9 +1,7 @@
-use Rattle.std.proofs.Common.{rules, ℕ, ◌≡◌, ◌+◌, ◌-◌, ◌<◌, ◌≤◌, ◌++◌, length, get_or, set, replicate, Option, None, Some, List, [], ◌∷◌, refl, sym, ◌∙◌, ap, subst, arith, heap_items}
+use Rattle.std.proofs.Common.{rules, ℕ, ◌≡◌, ◌-◌, ◌<◌, length, set, replicate, Option, None, Some, List, refl, ◌∙◌, ap, arith, heap_items}
 use Rattle.std.proofs.Math.ListN.{length-replicate}
 use Rattle.std.proofs.lemmas.List.{get_or-replicate}
-use Rattle.sota_network.specs.Network.{IsNode}
-use Rattle.sota_bounds.specs.Search.{time_at, TICK_LIMIT}
-use Rattle.sota_bounds.specs.declared.search.Visit.{Visit}
+use Rattle.sota_bounds.specs.Search.{time_at}
 use Rattle.sota_bounds.proofs.Earliest.{earliest}
 use Rattle.sota_bounds.proofs.Settling.{begun, dropped, all-least, visited, read-none, read-some}
 use Rattle.sota_bounds.proofs.Settled.{IsStep, settle, fewer}

@@ -1,14 +1,14 @@
-use Rattle.std.proofs.Common.{rules, ℕ, ◌≡◌, ◌+◌, ◌-◌, ◌<◌, ◌≤◌, ◌++◌, length, get_or, slice_get, Option, None, Some, List, [], ◌∷◌, take, refl, sym, ◌∙◌, ap, subst, arith, heap_items}
-use Rattle.std.specs.List.{All, filter_map}
+use Rattle.std.proofs.Common.{rules, ℕ, ◌≡◌, ◌-◌, ◌≤◌, Option, ◌∷◌, sym, ◌∙◌, ap, subst, arith, heap_items}
 use Rattle.std.specs.Option.{option_and_then}
 use Rattle.std.proofs.lemmas.Option.{slice_get_within, get_or_from_slice_get}
 use Rattle.std.proofs.lemmas.List.Elements.{All-cons}
 use Rattle.std.proofs.lemmas.List.Sorted.{All-permutation}
-use Rattle.sota_network.specs.Network.{Net, IsNode, arc_at}
+use Rattle.sota_network.specs.Network.{IsNode, arc_at}
 use Rattle.sota_network.specs.declared.network.Arc.{Arc}
-use Rattle.sota_bounds.specs.Search.{end_of, arcs_at, next_visit}
+use Rattle.sota_bounds.specs.Search.{end_of, next_visit}
 use Rattle.sota_bounds.specs.declared.search.Visit.{Visit}
-use Rattle.sota_bounds.proofs.Numbered.{out-read, arc-place, arc-valid, end-valid}
+use Rattle.sota_network.proofs.Recursion.{arc-valid}
+use Rattle.sota_bounds.proofs.Numbered.{out-read, arc-place, end-valid}
 use Rattle.sota_bounds.proofs.Queued.{queued-more, queued-same}
 use Rattle.sota_bounds.proofs.search.queue_next.Goals.{in-Some+in_ok-push, in_default}
 use Rattle.sota_bounds.proofs.search.queue_next.Goals as goal
@@ -49,7 +49,7 @@ pub loop-number-preserved : goal.loop-number-preserved
 loop-number-preserved c =
     let next : ℕ → Option Visit = λ e. option_and_then (next_visit c.args.direction c.args.dest c.args.visit.now c.args.times.now) (arc_at c.args.network.now e) in
     elim c.match-next_visit.branch [
-      in-Some+in_ok-push w ↦ record {
+      | in-Some+in_ok-push w ↦ record {
         order = search rules;
         queued = rw w.queue-is
             (queued-more next c.arcs_at-number-items.result.now c.loop-number.number-index c.number-item.result c.loop-number-test.true c.number-item.is (heap_items c.args.queue.now)
