@@ -41,10 +41,6 @@ next-here : (direction : Direction) (dest : ℕ) (visit : Visit) (times : List (
     → next_visit direction dest visit times arc ≡ Some (further direction visit arc)
 next-here direction dest visit times arc leaves never = rw (ne_eqb arc.tail dest leaves, never) refl
 
--- an arc that is there, and what it leads to
-over : Net → Direction → ℕ → Visit → List (Option ℕ) → ℕ → Option Visit
-over net direction dest visit times e = option_and_then (next_visit direction dest visit times) (arc_at net e)
-
 module _ (net : Net) (valid : IsNet net) (dest : ℕ) (direction : Direction) (source : ℕ) (visit : Visit) (times : List (Option ℕ)) where
   -- the visits that are queued come from walks
   queued-one : (e : ℕ) (w : Visit) → Joins net dest direction source visit.node visit.time.0 → (arc : Arc) → arc_at net e ≡ Some arc → start_of direction arc ≡ visit.node

@@ -13,7 +13,7 @@ use Rattle.sota_bounds.specs.declared.search.Direction.{Direction}
 use Rattle.sota_bounds.specs.declared.search.Direction.TheVariants.{Along, Against}
 use Rattle.sota_bounds.specs.declared.search.Visit.{Visit}
 
--- the greatest tick that there is
+-- the greatest tick that a histogram can have: it is a number of 32 bits
 abbrev pub TICK_LIMIT : ℕ
 TICK_LIMIT = 4294967295
 

@@ -16,8 +16,8 @@ use sota_network::laws::region_by_least_times;
 use sota_units::{NoMemory, NodeId};
 use std::alloc::Global;
 
-/// The region of an ask: the pairs of a node and a budget from which the destination can be reached, and to which an origin
-/// that began with the whole budget can have come.
+/// The region of an ask: the pairs of a node and a budget from which the destination can be
+/// reached, and to which an origin that began with the whole budget can have come.
 #[derive(Drop)]
 pub struct AskRegion {
     pub origin: NodeId,
@@ -40,8 +40,9 @@ const TABLE_LIMIT: u64 = 60_000_000;
 /// The most broad cells that are planned for.
 const BROAD_LIMIT: u64 = 40_000_000;
 
-/// The region of an ask whose budget is at most 65,535 ticks. TableCells exactly where the table cells exceed 60,000,000, else
-/// BroadCells exactly where the broad cells exceed 40,000,000. Near-linear in nodes and arcs.
+/// The region of an ask whose budget is at most 65,535 ticks. TableCells exactly where the table
+/// cells exceed 60,000,000, else BroadCells exactly where the broad cells exceed 40,000,000.
+/// Near-linear in nodes and arcs.
 pub fn region(
     alloc: Global,
     network: &Network,

@@ -8,7 +8,8 @@ use sota_units::NoMemory;
 pub enum RegionFault {
     /// The number of table cells, where it exceeds 60,000,000.
     TableCells(u64),
-    /// The number of broad cells, where it exceeds 40,000,000 and the table cells are within their limit.
+    /// The number of broad cells, where it exceeds 40,000,000 and the table cells are within their
+    /// limit.
     BroadCells(u64),
     /// Memory was wanted, and there was none.
     NoMemory,

@@ -8,8 +8,9 @@ use sota_network::Network;
 use sota_units::{NoMemory, NodeId};
 use std::alloc::Global;
 
-/// The least time from each node to the destination, in ticks, over walks whose arcs do not leave it: that of node `i` stands
-/// at index `i - 1`. None is never. Near-linear in nodes and arcs (Dijkstra 1959).
+/// The least time from each node to the destination, in ticks, over walks whose arcs do not leave
+/// it: that of node `i` stands at index `i - 1`. None is never. Near-linear in nodes and arcs
+/// (Dijkstra 1959).
 pub fn least_to(
     alloc: Global,
     network: &Network,
@@ -22,8 +23,9 @@ pub fn least_to(
     least_times(alloc, network, Direction::Against, dest, dest)
 }
 
-/// The least time from the origin to each node, in ticks, over walks whose arcs do not leave the destination: that of node `i`
-/// stands at index `i - 1`. None is never. Near-linear in nodes and arcs (Dijkstra 1959).
+/// The least time from the origin to each node, in ticks, over walks whose arcs do not leave the
+/// destination: that of node `i` stands at index `i - 1`. None is never. Near-linear in nodes and
+/// arcs (Dijkstra 1959).
 pub fn least_from(
     alloc: Global,
     network: &Network,

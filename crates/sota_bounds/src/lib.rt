@@ -1,4 +1,5 @@
-//! Least times in a road network, and the region of an ask: the nodes and budgets that can matter to it.
+//! Least times in a road network, and the region of an ask: the nodes and budgets that can matter
+//! to it.
 #![tactic(auto)]
 
 mod ask;

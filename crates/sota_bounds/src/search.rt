@@ -1,11 +1,10 @@
 // Dijkstra's search: nodes are settled by rising times from or to a source.
-ghost use Rattle.std.specs.Prelude.{ℕ, ◌≡◌, ◌+◌, ◌-◌, ◌*◌, ◌^◌, ◌<◌, ◌≤◌, ◌++◌, length, slice_index_or, IfOk, IfSome, OnOk, None, Some};
+ghost use Rattle.std.specs.Prelude.{ℕ, ◌≡◌, ◌+◌, ◌^◌, ◌<◌, ◌≤◌, ◌++◌, length, IfOk, IfSome, OnOk};
 ghost use Rattle.std.specs.List.{All};
 ghost use Rattle.std.specs.List.Sorted.{IsPermutation};
-ghost use Rattle.std.specs.Ordering.{nat_cmp, ordering_then};
-ghost use Rattle.std.specs.BinaryHeap.{heap_items, heap_len, IsHeap};
+ghost use Rattle.std.specs.BinaryHeap.{heap_items, IsHeap};
 ghost use Rattle.sota_network.specs.Network.{IsNet, IsNode};
-ghost use Rattle.sota_bounds.specs.Search.{start_of, end_of, arcs_at, time_at, next_visit, next_visits, by_time, IsLeastBetween, TICK_LIMIT};
+ghost use Rattle.sota_bounds.specs.Search.{end_of, arcs_at, time_at, next_visit, next_visits, by_time, IsLeastBetween, TICK_LIMIT};
 
 use sota_network::{Arc, Network};
 use sota_units::{ArcId, NoMemory, NodeId};
@@ -22,16 +21,16 @@ pub(crate) enum Direction {
     Against,
 }
 
-/// A node that a walk of this time joins to the source. The earlier visit is the greater one, since a heap hands the greatest
-/// out first.
+/// A node that a walk of this time joins to the source. The earlier visit is the greater one, since
+/// a heap hands the greatest out first.
 #[derive(Clone, Copy, PartialEq, Eq, PartialOrd, Ord)]
 struct Visit {
     time: Reverse<u64>,
     node: NodeId,
 }
 
-/// The least time between the source and each node, over walks whose arcs do not leave the destination: that of node `i` stands
-/// at index `i - 1`.
+/// The least time between the source and each node, over walks whose arcs do not leave the
+/// destination: that of node `i` stands at index `i - 1`.
 pub(crate) fn least_times(
     alloc: Global,
     network: &Network,
@@ -110,7 +109,8 @@ impl Direction {
         }
     }
 
-    /// The visit to which a settled one leads over an arc: none where the arc leaves the destination, or its end is settled.
+    /// The visit to which a settled one leads over an arc: none where the arc leaves the
+    /// destination, or its end is settled.
     fn next_visit(
         self,
         arc: &Arc,
