@@ -2,7 +2,7 @@
 use Rattle.std.proofs.Common.{ℕ, ◌≡◌, ◌<◌, ◌≤◌, Bool, true, false, cond, List, [], ◌∷◌, length, get_or, Option, None, Some, refl, sym, ◌∙◌, ap, subst, arith, ⊎_elim, ◌==◌, nat_lt, ◌&&◌}
 use Rattle.std.specs.List.{All, position, position_or_len}
 use Rattle.std.specs.List.Sorted.{IsPermutation, IsNonDecreasingBy}
-use Rattle.std.proofs.lemmas.Bool.{true≢false, cases_lt, eq-eqb, ne_eqb, lt-ltb, le-ltb, ltb-true, ltb-false, and_cases, eqb-false}
+use Rattle.std.proofs.lemmas.Bool.{true≢false, cases_lt, cases_eq, eq-eqb, ne_eqb, lt-ltb, le-ltb, ltb-true, ltb-false, and_cases, eqb-false}
 use Rattle.std.proofs.lemmas.Option.{none-some}
 use Rattle.std.proofs.lemmas.List.Elements.{All-filter, filter_passes}
 use Rattle.std.proofs.lemmas.List.Sums.{length-filter, count_by-le-length, fails_before_first, passes_at_first, position_or_len_is}
@@ -15,7 +15,7 @@ use Rattle.sota_hist.specs.declared.fault.HistFault.TheVariants.{ZeroTick, Repea
 use Rattle.std.specs.Option.{option_map, option_or}
 use Rattle.sota_hist.proofs.Ticks.{total-cons}
 use Rattle.sota_hist.proofs.Repeats.{IsChance, repeated-permutation, repeated_least, once_from_none, time_from_order}
-use Rattle.sota_hist.proofs.Order.{rising-is}
+use Rattle.sota_hist.proofs.Order.{rising-is, rising-permutes, rising-rises}
 
 -- dropping masses of 0 leaves the sum
 pub total-positive : (ps : List (ℕ × ℕ)) → total (positive ps) ≡ total ps
@@ -128,3 +128,25 @@ made scale ps sorted items no_zero moved ordered once sum same low high =
     let time = built ps sorted no_zero moved ordered once in
     subst (IsMade scale ps) (sym same)
     (record { valid = time.valid; some = rw sum low; within = rw sum high; fault = fault_none scale ps sorted no_zero moved once sum; is = time.is })
+
+-- ---- what no fault says
+no_fault : (z r : Option ℕ) (rest : Option HistFault) → option_or (option_map (λ k. ZeroTick k) z) (option_or (option_map (λ t. RepeatedTick t) r) rest) ≡ None → (z ≡ None) × (r ≡ None) × (rest ≡ None)
+no_fault None None rest none = (refl, refl, none)
+no_fault None (Some tick) rest none = absurd (none-some (RepeatedTick tick) (sym none))
+no_fault (Some place) r rest none = absurd (none-some (ZeroTick place) (sym none))
+
+sum_same : (scale sum : ℕ) → cond {A = Option HistFault} (sum == scale) None (Some (Sum sum)) ≡ None → sum ≡ scale
+sum_same scale sum none =
+    ⊎_elim
+    (λ (same : sum ≡ scale). same)
+    (λ (other : sum ≡ scale → ⊥). absurd (none-some (Sum sum) (sym none ∙ sum_fault scale sum other)))
+    (cases_eq sum scale)
+
+-- pairs in which nothing is wrong
+pub time-from_no_fault : (scale : ℕ) (ps : List (ℕ × ℕ)) → hist_fault scale ps ≡ None → IsTime (time_of ps) × (total (time_of ps) ≡ scale)
+time-from_no_fault scale ps none =
+    let parts = no_fault (zero_tick ps) (repeated_tick (positive ps)) (cond (total ps == scale) None (Some (Sum (total ps)))) none in
+    let few = once_from_none (positive ps) (repeated_tick (positive ps)) parts.1 (repeated_least (positive ps)) in (
+      rising-rises (positive ps) few (chances ps parts.0),
+      total-sorted ps (time_of ps) (rising-permutes (positive ps)) ∙ sum_same scale (total ps) parts.2,
+    )

@@ -4,6 +4,7 @@
 mod difference;
 mod fault;
 mod histogram;
+pub mod laws;
 mod sorted;
 
 pub use fault::HistFault;

@@ -11,3 +11,7 @@ pub mod Attained
 pub mod Gap
 pub mod Tables
 pub mod Fill
+pub mod Replaced
+pub mod Reaching
+pub mod Below
+pub mod Cells

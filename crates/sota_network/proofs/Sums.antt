@@ -5,8 +5,8 @@ use Rattle.std.proofs.lemmas.List.Elements.{filter-append}
 use Rattle.std.proofs.lemmas.List.Sums.{sum_by-cons, sum_by-append, sum_by_more}
 use Rattle.std.proofs.lemmas.Bool.{le-leb, lt-leb, cases_lt}
 use Rattle.std.proofs.Math.Nat.{mul-le-mul_left}
-use Rattle.sota_hist.specs.Time.{RisesFrom, total}
-use Rattle.sota_network.specs.Grid.{within, weighed}
+use Rattle.sota_hist.specs.Time.{RisesFrom, total, within}
+use Rattle.sota_network.specs.Grid.{weighed}
 
 -- a pair within the budget, and one that is not
 pub weighed-in : (v : ℕ → ℕ) (t : ℕ) (p : ℕ × ℕ) (ps : List (ℕ × ℕ)) → p.0 ≤ t → weighed v t (p ∷ ps) ≡ p.1 * v (t - p.0) + weighed v t ps

@@ -1,8 +1,9 @@
 -- The grid: for each node and budget two bounds of the on-time probability in units of ten to the minus eighteenth, and
 -- an arc to take. It is a plain recursion over all nodes and budgets, with the two roundings outward.
-use Rattle.std.specs.Prelude.{ℕ, zero, suc, ◌-◌, ◌*◌, max, ◌==◌, ◌&&◌, nat_le, List, [], ◌∷◌, map, Option, None, if◌then◌else◌}
+use Rattle.std.specs.Prelude.{ℕ, zero, suc, ◌-◌, ◌*◌, max, ◌==◌, ◌&&◌, List, [], ◌∷◌, map, Option, None, if◌then◌else◌}
 use Rattle.std.specs.List.{sum_by, filter}
 use Rattle.sota_units.specs.Rounding.{ONE, floor_by, ceiling_by}
+use Rattle.sota_hist.specs.Time.{within}
 use Rattle.sota_network.specs.Network.{Net}
 use Rattle.sota_network.specs.Numbers.{first_number}
 use Rattle.sota_network.specs.declared.network.Arc.{Arc}
@@ -11,11 +12,8 @@ use Rattle.sota_network.specs.declared.network.Arc.{Arc}
 abbrev pub BUDGET_LIMIT : ℕ
 BUDGET_LIMIT = 65535
 
--- the pairs whose ticks are within the budget: the others arrive late
-abbrev pub within : ℕ → List (ℕ × ℕ) → List (ℕ × ℕ)
-within t pairs = filter (λ p. nat_le p.0 t) pairs
-
--- the sum of each mass times the value at the budget that its tick leaves
+-- the sum of each mass times the value at the budget that its tick leaves, over the pairs within the budget: the others
+-- arrive late
 abbrev pub weighed : (ℕ → ℕ) → ℕ → List (ℕ × ℕ) → ℕ
 weighed v t pairs = sum_by (λ p. p.1 * v (t - p.0)) (within t pairs)
 

@@ -6,4 +6,7 @@ pub mod Sound
 pub mod Plan
 pub mod Bests
 pub mod Adjacency
+pub mod Walks
+pub mod Reach
+pub mod Region
 pub mod Examples

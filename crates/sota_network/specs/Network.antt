@@ -1,5 +1,5 @@
 -- Road networks whose arcs take a random number of ticks.
-use Rattle.std.specs.Prelude.{ℕ, zero, suc, ◌≡◌, ◌≤◌, List, slice_get, Option, None}
+use Rattle.std.specs.Prelude.{ℕ, zero, suc, ◌≡◌, ◌≤◌, List, slice_get, slice_set, Option, None, Some}
 use Rattle.std.specs.List.{All}
 use Rattle.sota_hist.specs.Time.{IsTime, total}
 use Rattle.sota_network.specs.declared.network.Arc.{Arc}
@@ -38,3 +38,8 @@ pub record IsNet (net : Net) : Type 0 where
 abbrev pub arc_at : Net → ℕ → Option Arc
 arc_at net zero = None
 arc_at net (suc k) = slice_get net.arcs k
+
+-- the network with another time of the arc of this number: itself where no arc has it
+abbrev pub replaced : Net → ℕ → List (ℕ × ℕ) → Net
+replaced net zero time = net
+replaced net (suc k) time = elim (slice_get net.arcs k) [ None ↦ net | Some arc ↦ record net { arcs = slice_set net.arcs k (record arc { time = time }) } ]

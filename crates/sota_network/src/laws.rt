@@ -1,11 +1,20 @@
 // What is true of the definitions themselves. The functions do nothing: their contracts are the theorems.
-ghost use Rattle.std.specs.Prelude.{ℕ, ◌≡◌, ◌+◌, ◌*◌, ◌^◌, ◌≤◌, Option, Some, None};
+ghost use Rattle.std.specs.Prelude.{ℕ, ◌≡◌, ◌≢◌, ◌+◌, ◌*◌, ◌^◌, ◌≤◌, List, Bool, true, false, Option, Some, None};
 ghost use Rattle.sota_units.specs.Rounding.{ONE, floor_by, ceiling_by};
-ghost use Rattle.sota_network.specs.Network.{Net, IsNet};
+ghost use Rattle.sota_hist.specs.Time.{IsTime, total};
+ghost use Rattle.sota_network.specs.Network.{Net, IsNet, replaced};
 ghost use Rattle.sota_network.specs.Grid.{lo, hi, choice, value_from};
 ghost use Rattle.sota_network.specs.Trees.{Encloses, Fits, follow, follow_step, score};
 ghost use Rattle.sota_network.specs.Sound.{Sound};
+ghost use Rattle.sota_network.specs.Walks.{Walk, IsLeastTime};
+ghost use Rattle.sota_network.specs.Reach.{reaches, in_region};
+ghost use Rattle.sota_network.specs.Region.{pairs_at, need, table_cells, broad_cells, is_between, pairs_between, need_between};
 ghost use Rattle.sota_network.specs.Examples.{triangle, chain, chain_tree, fork, late_route, certain_route, twins};
+
+/// A network stays one when the time of an arc is replaced.
+pub fn edits_keep_networks()
+    ensures { (net : Net) (arc : ℕ) (time : List (ℕ × ℕ)) → IsNet net → IsTime time → total time ≡ net.scale → IsNet (replaced net arc time) }
+{}
 
 /// The values of the grid, and the tree of a rule, are what their recursion makes of those at smaller budgets.
 pub fn grid_recurs()
@@ -26,6 +35,27 @@ pub fn grid_encloses()
     ensures whole { (net : Net) (dest i t : ℕ) → IsNet net → hi net dest i t ≤ ONE }
 {}
 
+/// A node reaches another within a number of ticks exactly where the least ticks of some walk sum to no more. Where the
+/// destination is not reached the grid's values are 0.
+pub fn reaches_by_walks()
+    ensures walk { (net : Net) (dest i j t : ℕ) → IsNet net → reaches net dest j i t ≡ true → (n : ℕ) × Walk net dest i j n × (n ≤ t) }
+    ensures reach { (net : Net) (dest i j t n : ℕ) → IsNet net → Walk net dest i j n → n ≤ t → reaches net dest j i t ≡ true }
+    ensures below { (net : Net) (dest i t : ℕ) → IsNet net → reaches net dest dest i t ≡ false → hi net dest i t ≡ 0 }
+{}
+
+/// Which budgets a node other than the destination has in the region of an ask, how many they are and its need, by its least
+/// times to the destination and from the origin. The destination has none.
+pub fn region_by_least_times()
+    ensures inside { (net : Net) (origin dest last i t : ℕ) (to from : Option ℕ) → IsNet net → i ≢ dest → IsLeastTime net dest i dest to → IsLeastTime net dest origin i from
+        → in_region net origin dest last i t ≡ is_between last to from t }
+    ensures pairs { (net : Net) (origin dest last i : ℕ) (to from : Option ℕ) → IsNet net → i ≢ dest → IsLeastTime net dest i dest to → IsLeastTime net dest origin i from
+        → pairs_at net origin dest last i ≡ pairs_between last to from }
+    ensures needs { (net : Net) (origin dest last i : ℕ) (to from : Option ℕ) → IsNet net → i ≢ dest → IsLeastTime net dest i dest to → IsLeastTime net dest origin i from
+        → need net origin dest last i ≡ need_between last to from }
+    ensures dest_pairs { (net : Net) (origin dest last : ℕ) → pairs_at net origin dest last dest ≡ 0 }
+    ensures dest_need { (net : Net) (origin dest last : ℕ) → need net origin dest last dest ≡ 0 }
+{}
+
 /// The definitions, computed on small networks.
 pub fn worked_examples()
     ensures triangle_too_late { (lo triangle 3 1 1 ≡ 0) × (hi triangle 3 1 1 ≡ 0) × (choice triangle 3 1 1 ≡ None) }
@@ -40,6 +70,11 @@ pub fn worked_examples()
     // Who looks at the time of the first road gains 3/4, and each fixed route 1/2.
     ensures fork_policy { (score fork 3 1 3 (follow fork (choice fork 3) 3 1 3) ≡ 6) × (fork.scale ^ 3 ≡ 8) }
     ensures fork_routes { (score fork 3 1 3 late_route ≡ 4) × (score fork 3 1 3 certain_route ≡ 4) }
+
+    // The least times to node 3 are 2, 1 and 0, and the region of an ask with 3 ticks has budgets 2 and 3 at node 1, 1 and 2 at node 2.
+    ensures triangle_reach { (reaches triangle 3 3 1 1 ≡ false) × (reaches triangle 3 3 1 2 ≡ true) × (reaches triangle 3 3 2 0 ≡ false) × (reaches triangle 3 3 2 1 ≡ true) × (reaches triangle 3 3 3 0 ≡ true) }
+    ensures triangle_needs { (need triangle 1 3 3 1 ≡ 4) × (need triangle 1 3 3 2 ≡ 3) × (need triangle 1 3 3 3 ≡ 0) }
+    ensures triangle_cells { (table_cells triangle 1 3 3 ≡ 4) × (broad_cells triangle 1 3 3 ≡ 0) }
 
     // Of equals the first arc is chosen.
     ensures twins_first { choice twins 2 1 5 ≡ Some 1 }

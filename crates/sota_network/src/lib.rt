@@ -9,7 +9,7 @@ mod network;
 mod plain;
 
 pub use grid::Grid;
-pub use network::{Arc, Network};
+pub use network::{Arc, Network, NoArc};
 pub use plain::plain_grid;
 
 #[cfg(test)]

@@ -1,10 +1,10 @@
 // Networks and their views.
-ghost use Rattle.std.specs.Prelude.{ℕ, ◌≡◌, ◌≤◌, ◌==◌, ◌↔◌, List, length, map, IfOk, IsSome, Option};
+ghost use Rattle.std.specs.Prelude.{ℕ, ◌≡◌, ◌≤◌, ◌==◌, ◌↔◌, List, length, map, IfErr, IfOk, IsSome, None, OnErr, OnOk, Option, Some};
 ghost use Rattle.std.specs.List.{All};
-ghost use Rattle.std.specs.Option.{option_copied};
+ghost use Rattle.std.specs.Option.{option_copied, option_map};
 ghost use Rattle.sota_units.specs.Rounding.{SCALE_LIMIT};
 ghost use Rattle.sota_hist.specs.Time.{IsTime, total};
-ghost use Rattle.sota_network.specs.Network.{Net, IsNet, IsNode, arc_at, NODE_LIMIT, ARC_LIMIT};
+ghost use Rattle.sota_network.specs.Network.{Net, IsNet, IsNode, arc_at, replaced, NODE_LIMIT, ARC_LIMIT};
 ghost use Rattle.sota_network.specs.Numbers.{numbers};
 
 use crate::adjacency::Adjacency;
@@ -12,12 +12,19 @@ use sota_hist::Histogram;
 use sota_units::{ArcId, NoMemory, NodeId, Scale};
 use std::alloc::Global;
 use std::marker::Model;
+use std::mem;
 
 /// A one-way road from its tail to its head. A mass of its time is a chance over the network's scale.
 #[derive(Drop)]
 pub struct Arc {
     pub tail: NodeId,
     pub head: NodeId,
+    pub time: Histogram,
+}
+
+/// No arc has the number. The histogram that was handed in is handed back.
+#[derive(Drop)]
+pub struct NoArc {
     pub time: Histogram,
 }
 
@@ -126,6 +133,25 @@ impl Network {
         ensures { result.now ≡ numbers (λ arc. arc.head == node) 1 self.now.arcs }
     {
         self.entering.of_node(node)
+    }
+
+    /// Gives an arc another time, and hands the one before back. NoArc exactly where the number is not from 1 to the number of
+    /// arcs. It takes no memory.
+    pub fn replace(&mut self, arc: ArcId, time: Histogram) -> Result<Histogram, NoArc>
+        requires total { total time ≡ self.old.scale }
+        ensures old { IfOk result (λ old. option_map (λ arc. arc.time) (arc_at self.old arc) ≡ Some old) }
+        ensures replaced { OnOk result (self.new ≡ replaced self.old arc time) }
+        ensures no_arc { IfErr result (λ refused. arc_at self.old arc ≡ None) }
+        ensures handed_back { IfErr result (λ refused. refused.time ≡ time) }
+        ensures unchanged { OnErr result (self.new ≡ self.old) }
+    {
+        let number = arc.get() as usize;
+        if number == 0 || self.arcs.len() < number {
+            return Err(NoArc { time });
+        }
+        let _pairs = time.pairs();
+        let place = &mut self.arcs[number - 1];
+        Ok(mem::replace(&mut place.time, time))
     }
 
     /// What is true of every network.

@@ -22,7 +22,8 @@ fn certain_arc(alloc: Global, tail: u32, head: u32, tick: u32) -> Result<Arc, No
 
 /// From 1 to 3 by way of 2 in two ticks, or straight by one of two arcs in three.
 fn certain_triangle(alloc: Global) -> Result<Network, NoMemory>
-    ensures { IfOk result (λ network. network.nodes ≡ 3) }
+    ensures nodes { IfOk result (λ network. network.nodes ≡ 3) }
+    ensures scale { IfOk result (λ network. network.scale ≡ 1) }
 {
     let mut arcs = Vec::new(alloc);
     arcs.push(certain_arc(alloc, 1, 2, 1)?)?;
@@ -65,5 +66,28 @@ fn plans_certain_times(rt: HostRuntime) -> Result<(), Fail> {
     assert!(rt; has_views(&network));
     let grid = plain_grid(rt.alloc(), &network, NodeId(3), 3)?;
     assert!(rt; has_entries(&grid));
+    Ok(())
+}
+
+#[test]
+fn replaces_a_time(rt: HostRuntime) -> Result<(), Fail> {
+    let mut network = certain_triangle(rt.alloc())?;
+    let quick = Histogram::certain(rt.alloc(), Scale::ONE, Tick(2))?;
+    let old = network.replace(ArcId(4), quick).ok().ok_or("an arc")?;
+    assert_eq!(rt; old.least(), Tick(3));
+    assert!(rt;
+        network
+            .arc(ArcId(4))
+            .is_some_and(|arc| arc.time.least() == Tick(2))
+    );
+    Ok(())
+}
+
+#[test]
+fn hands_a_time_back(rt: HostRuntime) -> Result<(), Fail> {
+    let mut network = certain_triangle(rt.alloc())?;
+    let quick = Histogram::certain(rt.alloc(), Scale::ONE, Tick(2))?;
+    let refused = network.replace(ArcId(5), quick).err().ok_or("no arc")?;
+    assert_eq!(rt; refused.time.least(), Tick(2));
     Ok(())
 }

@@ -1,0 +1,28 @@
+// Why a line is no command.
+use sota_units::NoMemory;
+
+/// The first fault of a line that is no command.
+#[derive(Clone, Copy, Debug, PartialEq, Eq)]
+pub enum LineFault {
+    /// The first field is no word of a command.
+    Word,
+    /// The number of fields is not one of the command.
+    Count,
+    /// A field that is to be a number, or a pair of two, is not.
+    Number,
+    /// A name is not UTF-8. It never comes yet, since no command has a name.
+    Name,
+    /// Memory was wanted, and there was none. It says nothing of the line.
+    NoMemory,
+}
+
+impl From<NoMemory> for LineFault {
+    ghost use Rattle.std.specs.Prelude.{◌≡◌};
+    ghost use Rattle.sota_script.specs.declared.fault.LineFault.TheVariants.{NoMemory as OutOfMemory};
+
+    ghost from_gives = { λ _ fault. fault ≡ OutOfMemory };
+
+    fn from(_: NoMemory) -> Self {
+        LineFault::NoMemory
+    }
+}

@@ -1,0 +1,13 @@
+//! Scripts: what a line of one says.
+#![tactic(auto)]
+
+mod command;
+mod fault;
+pub mod laws;
+mod line;
+#[cfg(test)]
+mod tests;
+
+pub use command::{Ask3, Command, Pairs};
+pub use fault::LineFault;
+pub use line::read_line;

@@ -1,0 +1,76 @@
+// Examples from outside the definitions.
+use crate::{Ask3, Command, LineFault, Pairs, read_line};
+use sota_units::{ArcId, Mass, Tick};
+use std::test::Fail;
+
+#[test]
+fn refused_lines(rt: HostRuntime) -> Result<(), Fail> {
+    let faults = [
+        ("go", LineFault::Word),
+        ("edits 1 1:1", LineFault::Word),
+        ("policy 1 2 3 p", LineFault::Word),
+        ("ASK 1 2 3", LineFault::Word),
+        ("edit", LineFault::Count),
+        ("edit x", LineFault::Count),
+        ("ask 1 3", LineFault::Count),
+        ("ask 1 x 3 4", LineFault::Count),
+        ("edit x 1:1", LineFault::Number),
+        ("edit 2 1-4", LineFault::Number),
+        ("edit 1 1:1 2", LineFault::Number),
+        ("edit 1 1:1 :2", LineFault::Number),
+        ("edit 1 1: 2:1", LineFault::Number),
+        ("edit 1 1:1:1", LineFault::Number),
+        ("edit 1 1:4294967296", LineFault::Number),
+        ("ask 1 2 4294967296", LineFault::Number),
+        ("ask 1 2 3\r", LineFault::Number),
+        ("ask 1 3 x", LineFault::Number),
+    ];
+    for (line, want) in faults {
+        let bytes = line.as_bytes();
+        assert!(rt; bytes.len() < 100);
+        match read_line(rt.alloc(), bytes) {
+            Ok(_) => assert!(rt; false, "{line}"),
+            Err(fault) => assert_eq!(rt; fault, want, "{line}"),
+        }
+    }
+    Ok(())
+}
+
+/// Whether a command is this ask.
+fn is_ask(command: &Command, want: &Ask3) -> bool {
+    match command {
+        Command::Ask(ask) => ask == want,
+        Command::Edit { .. } => false,
+    }
+}
+
+/// Whether a command is the edit of an arc by these pairs.
+fn is_edit(command: Command, want: ArcId, want_pairs: &[(Tick, Mass)]) -> bool {
+    match command {
+        Command::Edit { arc, pairs } => {
+            let pairs = Pairs::new(pairs.into_vec());
+            arc == want && pairs.as_slice() == want_pairs
+        }
+        Command::Ask(_) => false,
+    }
+}
+
+#[test]
+fn commands(rt: HostRuntime) -> Result<(), Fail> {
+    for line in ["", " \t ", "#", "\t# ask 1 2 3", "#edit 1"] {
+        let bytes = line.as_bytes();
+        assert!(rt; bytes.len() < 100);
+        assert!(rt; read_line(rt.alloc(), bytes)?.is_none(), "{line}");
+    }
+    let ask = Ask3 {
+        origin: 1,
+        dest: 2,
+        budget: 65536,
+    };
+    let command = read_line(rt.alloc(), b"\task 01 2  65536 ")?.ok_or("an ask")?;
+    assert!(rt; is_ask(&command, &ask));
+    let pairs = [(Tick(5), Mass(1)), (Tick(0), Mass(4)), (Tick(5), Mass(0))];
+    let command = read_line(rt.alloc(), b"edit 3 5:1\t0:04 5:0")?.ok_or("an edit")?;
+    assert!(rt; is_edit(command, ArcId(3), &pairs));
+    Ok(())
+}

@@ -1,0 +1,33 @@
+-- Asks: why one is refused, and what answers the others.
+use Rattle.std.specs.Prelude.{ℕ, ◌≤◌, ◌&&◌, nat_le, Bool, Option, Some, None, if◌then◌else◌}
+use Rattle.sota_network.specs.Network.{Net, IsNode}
+use Rattle.sota_network.specs.Grid.{lo, hi, choice, BUDGET_LIMIT}
+use Rattle.sota_session.specs.declared.ask.Ask.{Ask}
+use Rattle.sota_session.specs.declared.ask.Answer.{Answer}
+use Rattle.sota_session.specs.declared.ask.AskFault.{AskFault}
+use Rattle.sota_session.specs.declared.ask.AskFault.TheVariants.{NoOrigin, NoDest, Budget}
+
+-- the number of a node
+abbrev pub is_node : Net → ℕ → Bool
+is_node net node = nat_le 1 node && nat_le node net.nodes
+
+-- the first cause for which an ask is refused, none where it is answered
+abbrev pub ask_fault : Net → Ask → Option AskFault
+ask_fault net ask =
+    if is_node net ask.origin then
+    (if is_node net ask.dest then (if nat_le ask.budget BUDGET_LIMIT then None else Some Budget) else Some NoDest)
+    else Some NoOrigin
+
+-- both ends are nodes, and the budget is one that a grid is asked for
+pub record IsInRange (net : Net) (ask : Ask) : Type 0 where
+  pub origin : IsNode net ask.origin
+  pub dest : IsNode net ask.dest
+  pub budget : ask.budget ≤ BUDGET_LIMIT
+
+-- the two bounds of the on-time probability and the arc to take first, by the grid of the network
+abbrev pub answer_of : Net → Ask → Answer
+answer_of net ask = record {
+  lower = lo net ask.dest ask.origin ask.budget;
+  upper = hi net ask.dest ask.origin ask.budget;
+  next = choice net ask.dest ask.origin ask.budget;
+}
