@@ -1,5 +1,5 @@
 -- An ask that is answered: its outcome, and that its network is one.
-use Rattle.std.proofs.Common.{◌≡◌, ℕ, List, Option, Some, Result, Ok, refl, sym, ap, ◌∙◌, subst}
+use Rattle.std.proofs.Common.{◌≡◌, ℕ, List, Option, Some, Result, Ok, sym, ap, ◌∙◌, subst}
 use Rattle.sota_edge.specs.Desk.{Files, DeskState}
 use Rattle.sota_edge.specs.Sink.{SinkState, Wrote}
 use Rattle.sota_network.specs.Network.{Net, IsNet}
@@ -13,7 +13,6 @@ use Rattle.sota_app.specs.Meaning.{IsAnsweredAsk, MeansNetwork, HasNetwork}
 use Rattle.sota_app.specs.declared.ask.AskFault.{AskFault}
 use Rattle.sota_app.specs.declared.reply.Reply.TheVariants as replies
 use Rattle.sota_app.specs.declared.words.Command.{Command}
-use Rattle.sota_app.specs.declared.words.Command.TheVariants as commands
 use Rattle.sota_app.specs.declared.status.Status.{Status}
 use Rattle.sota_app.specs.declared.status.Status.TheVariants.{Done}
 use Rattle.sota_app.proofs.Told.{at_files}

@@ -1,5 +1,5 @@
 -- Where the inputs are not accepted, the cause of the status.
-use Rattle.std.proofs.Common.{◌≡◌, ℕ, List, Some, Result, Err, refl, sym, ◌∙◌, ap, subst, inl, inr}
+use Rattle.std.proofs.Common.{◌≡◌, Some, Result, Err, refl, sym, ◌∙◌, ap, subst, inl, inr}
 use Rattle.sota_edge.specs.Desk.{Files, DeskState}
 use Rattle.sota_edge.specs.Sink.{SinkState}
 use Rattle.sota_network.specs.Network.{Net}
@@ -7,12 +7,11 @@ use Rattle.sota_app.specs.Said.{AskSaid}
 use Rattle.sota_app.specs.Replies.{Replied}
 use Rattle.sota_app.specs.Refusals.{refusal_line}
 use Rattle.sota_app.specs.Outcome.{Outcome, network_of, refused_input}
-use Rattle.sota_app.specs.Causes.{Cause, Delivered, Told, Took}
-use Rattle.sota_app.specs.Inputs.{Calm, InputsRead, EndReplied}
+use Rattle.sota_app.specs.Causes.{Cause, Delivered, Told, Took, UnreadNetwork}
+use Rattle.sota_app.specs.Inputs.{Calm, InputRead, EndReplied}
 use Rattle.sota_app.specs.declared.refusal.Refusal.{Refusal}
 use Rattle.sota_app.specs.declared.inputs.InputEnd.{InputEnd}
 use Rattle.sota_app.specs.declared.inputs.InputEnd.TheVariants as ends
-use Rattle.sota_app.specs.declared.words.Command.{Command}
 use Rattle.sota_app.specs.declared.words.Command.TheVariants as commands
 use Rattle.sota_app.specs.declared.status.Status.{Status}
 use Rattle.sota_app.specs.declared.status.Status.TheVariants.{Input}
@@ -35,14 +34,15 @@ refused_cause said refusal result d e s t calm took told written = elim written 
 ]
 
 pub err_cause : (said : AskSaid) (end : InputEnd) (result : Status) (d e : DeskState) (s t : SinkState)
-    → InputsRead (Err end) said.graph (network_of said.graph said.hists) d e → EndReplied end result s t → Cause result (Some (commands.Ask said)) d e s t
+    → InputRead (λ (net : Net). net) (Err end) (network_of said.graph said.hists) (UnreadNetwork said.graph said.hists) d e → EndReplied end result s t → Cause result (Some (commands.Ask said)) d e s t
 err_cause said (ends.Refused refusal) result d e s t read written = refused_cause said refusal result d e s t read.0 read.1 read.2 written
 err_cause said ends.Unread result d e s t read written =
     subst (λ (status : Status). Cause status (Some (commands.Ask said)) d e s t) (sym written.0) (read.0, written.1, read.1)
 err_cause said ends.NoMemory result d e s t read written = subst (λ (status : Status). Cause status (Some (commands.Ask said)) d e s t) (sym written.0) tt
 
 -- what the desk holds stays
-pub err_kept : {A : Type 0} (end : InputEnd) (name : List ℕ) (said : Files → Result A Outcome) (d e : DeskState) → InputsRead (Err end) name said d e → e.holds ≡ d.holds
-err_kept (ends.Refused refusal) name said d e read = read.0.holds
-err_kept ends.Unread name said d e read = read.1
-err_kept ends.NoMemory name said d e read = read
+pub err_kept : {T A : Type 0} (view : T → A) (end : InputEnd) (said : Files → Result A Outcome) (Missed : DeskState → DeskState → Type 0) (d e : DeskState)
+    → InputRead view (Err end) said Missed d e → e.holds ≡ d.holds
+err_kept view (ends.Refused refusal) said Missed d e read = read.0.holds
+err_kept view ends.Unread said Missed d e read = read.1
+err_kept view ends.NoMemory said Missed d e read = read

@@ -1,11 +1,11 @@
 -- How the reading of inputs ended.
-use Rattle.std.specs.Prelude.{◌≡◌, ◌≤◌, ℕ, List, None, Result, Ok, Err}
+use Rattle.std.specs.Prelude.{◌≡◌, ◌≤◌, Result, Ok, Err}
 use Rattle.sota_edge.specs.Desk.{Files, DeskState}
 use Rattle.sota_edge.specs.Sink.{SinkState}
-use Rattle.sota_app.specs.Outcome.{Outcome, refused_input, not_there}
+use Rattle.sota_app.specs.Outcome.{Outcome, refused_input}
 use Rattle.sota_app.specs.Refusals.{refusal_line}
 use Rattle.sota_app.specs.Replies.{Replied}
-use Rattle.sota_app.specs.Causes.{Told, Took, IsOfText, Unread}
+use Rattle.sota_app.specs.Causes.{Told, Took, IsOfText}
 use Rattle.sota_app.specs.declared.inputs.InputEnd.{InputEnd}
 use Rattle.sota_app.specs.declared.inputs.InputEnd.TheVariants as ends
 use Rattle.sota_app.specs.declared.status.Status.{Status}
@@ -26,14 +26,14 @@ TextRead (Err (ends.Refused refusal)) said = (said ≡ Err (refused_input refusa
 TextRead (Err ends.Unread) said = ⊥
 TextRead (Err ends.NoMemory) said = Unit {0}
 
--- what was read is what the files mean, where that is told; the input of the name is the one that could not be read
-abbrev pub InputsRead : {A : Type 0} → Result A InputEnd → List ℕ → (Files → Result A Outcome) → DeskState → DeskState → Type 0
-InputsRead (Ok value) name said old new = Calm old new × Told old (λ files. said files ≡ Ok value)
-InputsRead (Err (ends.Refused refusal)) name said old new =
+-- What was read is what the files mean, where that is told. Where an input could not be read, it was one that is missed so.
+abbrev pub InputRead : {T A : Type 0} → (T → A) → Result T InputEnd → (Files → Result A Outcome)
+    → (DeskState → DeskState → Type 0) → DeskState → DeskState → Type 0
+InputRead view (Ok value) said Missed old new = Calm old new × Told old (λ files. said files ≡ Ok (view value))
+InputRead view (Err (ends.Refused refusal)) said Missed old new =
     Calm old new × Took refusal old new × Told old (λ files. said files ≡ Err (refused_input refusal))
-InputsRead (Err ends.Unread) name said old new =
-    Unread name old new × (new.holds ≡ old.holds) × Told old (λ files. files name ≡ None → said files ≡ Err not_there)
-InputsRead (Err ends.NoMemory) name said old new = new.holds ≡ old.holds
+InputRead view (Err ends.Unread) said Missed old new = Missed old new × (new.holds ≡ old.holds)
+InputRead view (Err ends.NoMemory) said Missed old new = new.holds ≡ old.holds
 
 -- an input that is refused is told, and one that could not be read leaves the sink as it is
 abbrev pub EndReplied : InputEnd → Status → SinkState → SinkState → Type 0

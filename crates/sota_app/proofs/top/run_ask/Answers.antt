@@ -1,5 +1,6 @@
 use Rattle.std.proofs.Common.{Some, subst}
 use Rattle.sota_edge.specs.Sink.{WrotePrefix}
+use Rattle.sota_network.specs.Network.{Net}
 use Rattle.sota_app.specs.Said.{AskSaid}
 use Rattle.sota_app.specs.Outcome.{outcome_of}
 use Rattle.sota_app.specs.Causes.{Told, Cause}
@@ -36,4 +37,4 @@ returns-in-Err-clause-cause g c =
     c.in-Err.ensures.read c.reply_end.ensures)
 
 pub returns-in-Err-clause-kept : goal.returns-in-Err-clause-kept
-returns-in-Err-clause-kept g c = err_kept c.in-Err.end _ _ _ _ c.in-Err.ensures.read
+returns-in-Err-clause-kept g c = err_kept (λ (net : Net). net) c.in-Err.end _ _ _ _ c.in-Err.ensures.read
