@@ -3,3 +3,5 @@ pub mod Exact
 pub mod Begun
 pub mod RefusedInputs
 pub mod Answered
+pub mod Sayings
+pub mod Reaches

@@ -1,10 +1,10 @@
 //! The top call: it reads the words and the files that they name, and writes the replies.
 #![tactic(auto)]
 
-mod ask;
 mod inputs;
 mod refusal;
 mod reply;
+mod script;
 mod status;
 mod top;
 mod words;
