@@ -3,5 +3,6 @@ pub mod Exact
 pub mod Begun
 pub mod RefusedInputs
 pub mod Answered
-pub mod Sayings
 pub mod Reaches
+pub mod Sayings
+pub mod EachLine

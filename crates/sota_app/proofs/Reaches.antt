@@ -50,7 +50,7 @@ begun_behind a b rest r s t wrote begun =
       length a + begun.0,
       omega (arith, length-append a (b ++ rest), length-append b rest, begun.1),
       begun.2 ∙ ap (λ (written : Option (List ℕ)). appended written (take begun.0 b)) wrote ∙ wrote_behind r.written a (take begun.0 b)
-      ∙ ap (λ bytes. appended r.written bytes) (sym cut),
+          ∙ ap (λ bytes. appended r.written bytes) (sym cut),
     )
 
 -- ---- a script that is done so far
@@ -91,7 +91,7 @@ reach_more before saying net now next refused more from to new reached told move
     }
 
 -- the text of the replies, around those to one line
-around : (before : List Saying) (saying : Saying) (after : List Saying) (net now : Net) → now ≡ network_after net before
+pub around : (before : List Saying) (saying : Saying) (after : List Saying) (net now : Net) → now ≡ network_after net before
     → replies_text (replies_to net (before ++ saying ∷ after))
     ≡ replies_text (replies_to net before) ++ (replies_text (option_to_list (step now saying).reply) ++ replies_text (replies_to (step now saying).next after))
 around before saying after net now is =

@@ -28,7 +28,7 @@ loop-line-preserved g c =
       within = within.1;
       lines = line_done c.args.script.now c.loop-line.yielded c.in-Some.line c.next.new.self _ lines;
       reached = rw map-append (reach_more before (saying_at c.args.script.now c.in-Some.line) c.args.session.now c.loop-line.session c.play_line.new.session c.loop-line.refused c.in_ok-refused.field-0
-      (g.O.Sink.state c.args.out.now) (g.O.Sink.state c.loop-line.out) (g.O.Sink.state c.play_line.new.out) c.loop-line.invariant.reached c.in_ok-refused.ensures.told c.in_ok-refused.ensures.next);
+          (g.O.Sink.state c.args.out.now) (g.O.Sink.state c.loop-line.out) (g.O.Sink.state c.play_line.new.out) c.loop-line.invariant.reached c.in_ok-refused.ensures.told c.in_ok-refused.ensures.next);
     }
 
 pub returns : goal.returns
