@@ -1,8 +1,9 @@
 // Reading a line.
-ghost use Rattle.std.specs.Prelude.{◌≡◌, ◌<◌, ◌^◌, ◌∷◌, map, length, option_map, Option};
+ghost use Rattle.std.specs.Prelude.{◌≡◌, ◌<◌, ◌^◌, ◌∷◌, map, length, option_map, IfOk, IfSome, Option};
 ghost use Rattle.sota_text.specs.Spans.{bytes_of, AreWithin, IsWithin};
 ghost use Rattle.sota_script.specs.Lines.{line_said, begins_comment, three, edit_said, ask_said, pairs_of, pair_of, is_colon, or_fault};
 ghost use Rattle.std.specs.List.{position};
+ghost use Rattle.sota_script.specs.Few.{HasFewPairs};
 ghost use Rattle.sota_script.specs.Answers.{ReadsLine};
 ghost use Rattle.sota_script.specs.declared.fault.LineFault.TheVariants.{Number};
 
@@ -18,7 +19,8 @@ use std::alloc::Global;
 /// spaces and tabs.
 pub fn read_line(alloc: Global, line: &[u8]) -> Result<Option<Command>, LineFault>
     requires { length line.now < 2 ^ 32 }
-    ensures { ReadsLine result (line_said line.now) }
+    ensures said { ReadsLine result (line_said line.now) }
+    ensures few { IfOk result (λ said. IfSome said (λ command. HasFewPairs command)) }
 {
     let mut fields = Fields::new(line);
     let Some(first) = fields.next() else {

@@ -1,0 +1,59 @@
+-- An edit has no more pairs than its line has bytes: each stands in a field of its own.
+use Rattle.std.proofs.Common.{◌≡◌, ℕ, ◌+◌, ◌≤◌, ◌<◌, ◌^◌, List, [], ◌∷◌, true, false, not, cond, length, map, filter, Option, Some, None, option_map, Result, Ok, Err, refl, sym, ap, subst, arith}
+use Rattle.std.specs.List.{slice_split, onto_first}
+use Rattle.std.proofs.lemmas.List.{length-map}
+use Rattle.sota_text.specs.Text.{is_blank, is_empty, fields_of}
+use Rattle.sota_script.specs.Lines.{◌>>=◌, all_there, or_fault, number_said, pair_of, pairs_of, edit_said}
+use Rattle.sota_script.specs.Few.{HasFewPairs}
+use Rattle.sota_script.specs.declared.command.Command.{Command}
+use Rattle.sota_script.specs.declared.command.Command.TheVariants as commands
+use Rattle.sota_script.specs.declared.fault.LineFault.{LineFault}
+use Rattle.sota_script.specs.declared.fault.LineFault.TheVariants.{Number}
+
+-- ---- a field has a byte
+
+abbrev pub some_fields : List (List ℕ) → List (List ℕ)
+some_fields pieces = filter (λ (piece : List ℕ). not (is_empty piece)) pieces
+
+one_longer : (byte : ℕ) (pieces : List (List ℕ)) → length (some_fields (onto_first byte pieces)) ≤ length (some_fields pieces) + 1
+one_longer byte [] = omega arith
+one_longer byte ([] ∷ pieces) = omega arith
+one_longer byte ((first ∷ piece) ∷ pieces) = omega arith
+
+pub few_fields : (line : List ℕ) → length (fields_of line) ≤ length line
+few_fields [] = omega arith
+few_fields (byte ∷ line) =
+    let rest : length (some_fields (slice_split is_blank line)) ≤ length line = few_fields line in
+    elim (is_blank byte) as (λ b. length (some_fields (cond b ([] ∷ slice_split is_blank line) (onto_first byte (slice_split is_blank line)))) ≤ length (byte ∷ line)) [
+      | true ↦ omega (arith, rest)
+      | false ↦ omega (arith, rest, one_longer byte (slice_split is_blank line))
+    ]
+
+-- ---- a pair has a field
+
+one_more : {A : Type 0} (first : A) (more : Option (List A)) (all : List A) (n : ℕ) → ((xs : List A) → more ≡ Some xs → length xs ≡ n) → option_map (λ xs. first ∷ xs) more ≡ Some all → length all ≡ n + 1
+one_more first None all n h e = absurd (cc)
+one_more first (Some xs) all n h e =
+    let is : first ∷ xs ≡ all = cc in
+    let many : length xs ≡ n = h xs refl in
+    omega (arith, ap length is, many)
+
+all_of : {A : Type 0} (options : List (Option A)) (all : List A) → all_there options ≡ Some all → length all ≡ length options
+all_of [] all e = let is : [] ≡ all = cc in ap length (sym is)
+all_of (None ∷ options) all e = absurd (cc)
+all_of (Some x ∷ options) all e = let many : length all ≡ length options + 1 = one_more x (all_there options) all (length options) (all_of options) e in omega (arith, many)
+
+edit_by : (number : Result ℕ LineFault) (pairs : Option (List (ℕ × ℕ))) (command : Command) → ((all : List (ℕ × ℕ)) → pairs ≡ Some all → length all < 2 ^ 32)
+    → (number >>= λ arc. or_fault Number pairs >>= λ all. Ok (commands.Edit arc all)) ≡ Ok command → HasFewPairs command
+edit_by (Err fault) pairs command few e = absurd (cc)
+edit_by (Ok arc) None command few e = absurd (cc)
+edit_by (Ok arc) (Some all) command few e =
+    let is : commands.Edit arc all ≡ command = cc in
+    subst (λ (command : Command). HasFewPairs command) is (few all refl)
+
+pub edit_few : (words : List (List ℕ)) (command : Command) → length words < 2 ^ 32 → edit_said words ≡ Ok command → HasFewPairs command
+edit_few [] command few e = absurd (cc)
+edit_few (arc ∷ []) command few e = absurd (cc)
+edit_few (arc ∷ first ∷ more) command few e =
+    edit_by (number_said arc) (pairs_of (first ∷ more)) command
+    (λ all is. let many : length all ≡ length (map pair_of (first ∷ more)) = all_of (map pair_of (first ∷ more)) all is in omega (arith, many, few, length-map more pair_of)) e
