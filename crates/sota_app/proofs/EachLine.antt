@@ -4,12 +4,12 @@ use Rattle.std.specs.Option.{option_or}
 use Rattle.sota_hist.specs.Time.{IsTime, total}
 use Rattle.sota_hist.specs.Build.{hist_fault, time_of}
 use Rattle.sota_hist.specs.declared.fault.HistFault.{HistFault}
-use Rattle.sota_network.specs.Network.{Net, IsNet, arc_at}
+use Rattle.sota_network.specs.Network.{Net, IsNet, arc_at, replaced}
 use Rattle.sota_script.specs.declared.command.Ask3.{Ask3}
 use Rattle.sota_script.specs.declared.command.Command.{Command}
 use Rattle.sota_script.specs.declared.command.Command.TheVariants as commands
 use Rattle.sota_script.specs.declared.fault.LineFault.{LineFault}
-use Rattle.sota_session.specs.Asks.{ask_fault, answer_of, replaced}
+use Rattle.sota_session.specs.Asks.{ask_fault, answer_of}
 use Rattle.sota_session.specs.declared.ask.Ask.{Ask}
 use Rattle.sota_session.specs.declared.ask.Answer.{Answer}
 use Rattle.sota_session.specs.declared.ask.AskFault.{AskFault}

@@ -6,13 +6,13 @@ use Rattle.sota_edge.specs.Counts.{Rose}
 use Rattle.sota_edge.specs.Sink.{SinkState, Wrote, WrotePrefix}
 use Rattle.sota_text.specs.Text.{numbered_lines}
 use Rattle.sota_hist.specs.Build.{hist_fault, time_of}
-use Rattle.sota_network.specs.Network.{Net, arc_at}
+use Rattle.sota_network.specs.Network.{Net, arc_at, replaced}
 use Rattle.sota_script.specs.Lines.{line_said}
 use Rattle.sota_script.specs.declared.command.Ask3.{Ask3}
 use Rattle.sota_script.specs.declared.command.Command.{Command}
 use Rattle.sota_script.specs.declared.command.Command.TheVariants as commands
 use Rattle.sota_script.specs.declared.fault.LineFault.{LineFault}
-use Rattle.sota_session.specs.Asks.{ask_fault, answer_of, replaced}
+use Rattle.sota_session.specs.Asks.{ask_fault, answer_of}
 use Rattle.sota_session.specs.declared.ask.Ask.{Ask}
 use Rattle.sota_session.specs.declared.session.EditFault.TheVariants as edits
 use Rattle.sota_app.specs.Replies.{reply_line, is_refusal}
