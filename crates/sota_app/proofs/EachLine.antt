@@ -1,5 +1,5 @@
 -- Each line of a script by itself: where its reply stands in the text, and that its network is one.
-use Rattle.std.proofs.Common.{◌≡◌, ℕ, ◌++◌, List, [], ◌∷◌, Bool, true, false, is_some, Option, Some, None, option_map, Result, Ok, Err, cond, option_to_list, refl, sym, ◌∙◌, ap, subst, append-nil}
+use Rattle.std.proofs.Common.{◌≡◌, ℕ, ◌++◌, List, [], ◌∷◌, is_some, Option, Some, None, option_map, Result, Ok, Err, cond, option_to_list, refl, sym, ◌∙◌, ap, append-nil}
 use Rattle.std.specs.Option.{option_or}
 use Rattle.sota_hist.specs.Time.{IsTime, total}
 use Rattle.sota_hist.specs.Build.{hist_fault, time_of}
@@ -15,7 +15,7 @@ use Rattle.sota_session.specs.declared.ask.Answer.{Answer}
 use Rattle.sota_session.specs.declared.ask.AskFault.{AskFault}
 use Rattle.sota_session.specs.declared.session.EditFault.TheVariants as edits
 use Rattle.sota_app.specs.Replies.{reply_line}
-use Rattle.sota_app.specs.Script.{Saying, Step, asked, edit_fault, done, refused_or, command_step, said_step, step, network_after, replies_to, replies_text}
+use Rattle.sota_app.specs.Script.{Saying, Step, asked, edit_fault, done, refused_or, said_step, step, network_after, replies_to, replies_text}
 use Rattle.sota_app.specs.declared.reply.Reply.{Reply}
 use Rattle.sota_app.specs.declared.reply.Reply.TheVariants as replies
 use Rattle.sota_app.specs.declared.reply.Cause.{Cause}

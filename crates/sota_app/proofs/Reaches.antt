@@ -1,6 +1,5 @@
 -- One line more of a script.
-use Rattle.std.proofs.Common.{◌≡◌, ℕ, suc, ◌+◌, ◌≤◌, ◌++◌, List, [], ◌∷◌, Bool, true, false, ◌||◌, length, take, map, Option, Some, None, Result, Ok, Err, option_to_list, refl, sym, ◌∙◌, ap, subst, inl, inr, arith, append_assoc, append-nil, length-append}
-use Rattle.std.specs.List.{fold, list_any, flat_map}
+use Rattle.std.proofs.Common.{◌≡◌, ℕ, suc, ◌+◌, ◌≤◌, ◌++◌, List, [], ◌∷◌, Bool, false, ◌||◌, length, take, Option, Some, None, Ok, Err, option_to_list, refl, sym, ◌∙◌, ap, subst, arith, append_assoc, append-nil, length-append}
 use Rattle.std.proofs.lemmas.List.{take-append-le}
 use Rattle.std.proofs.lemmas.List.Folds.{list_any-append}
 use Rattle.std.proofs.lemmas.List.Sums.{fold-append}
@@ -98,6 +97,9 @@ around before saying after net now is =
     ap replies_text (replies_behind net before (saying ∷ after) ∙ ap (λ (net' : Net). replies_to net before ++ replies_to net' (saying ∷ after)) (sym is))
     ∙ text_behind (replies_to net before) (option_to_list (step now saying).reply ++ replies_to (step now saying).next after)
     ∙ ap (λ bytes. replies_text (replies_to net before) ++ bytes) (text_behind (option_to_list (step now saying).reply) (replies_to (step now saying).next after))
+
+pub reach_network : (all before : List Saying) (net now : Net) (refused : Bool) (from to : SinkState) → all ≡ before ++ [] → Reached before net now refused from to → now ≡ network_after net all
+reach_network all before net now refused from to is reached = reached.network ∙ ap (network_after net) (sym (is ∙ append-nil before))
 
 rose_later : (a b c : ℕ) → a ≤ b → Rose b c → Rose a c
 rose_later a b c h rose = omega arith

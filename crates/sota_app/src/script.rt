@@ -1,10 +1,10 @@
 // Scripts: a line is read, done and replied to before the next.
-ghost use Rattle.std.specs.Prelude.{◌≡◌, ◌≤◌, ◌<◌, ◌^◌, ◌∷◌, [], length, IfOk, OnOk, Option, Some, option_to_list};
+ghost use Rattle.std.specs.Prelude.{◌≡◌, ◌≢◌, ◌≤◌, ◌<◌, ◌^◌, ◌∷◌, [], length, IfOk, OnOk, Option, Some, option_to_list};
 ghost use Rattle.sota_hist.specs.Time.{total};
 ghost use Rattle.sota_script.specs.Few.{HasFewPairs};
 ghost use Rattle.sota_script.specs.declared.command.Command.{Command as Said};
 ghost use Rattle.sota_app.specs.Replies.{Replied};
-ghost use Rattle.sota_app.specs.Script.{asked, command_step, saying_of, step, script_sayings, one_ask, replies_to, replies_text, replies_status, status_of, ToldEnd};
+ghost use Rattle.sota_app.specs.Script.{asked, command_step, saying_of, step, script_sayings, one_ask, network_after, replies_to, replies_text, replies_status, status_of, ToldEnd};
 
 use crate::reply::{Cause, Reply};
 use crate::status::Status;
@@ -179,7 +179,8 @@ fn play_lines<O: Sink, M: Ledger, P: Ledger>(
     pushes: &mut Steps<P>,
 ) -> Result<bool, End>
     requires { length script.now ≤ 67108864 }
-    ensures { ToldEnd result (replies_to session.old (script_sayings script.now)) (O.state out.old) (O.state out.new) }
+    ensures told { ToldEnd result (replies_to session.old (script_sayings script.now)) (O.state out.old) (O.state out.new) }
+    ensures next { OnOk result (session.new ≡ network_after session.old (script_sayings script.now)) }
 {
     let mut refused = false;
     for line in Lines::new(script) {
@@ -198,7 +199,8 @@ fn play_ask<O: Sink, M: Ledger, P: Ledger>(
     products: &mut Steps<M>,
     pushes: &mut Steps<P>,
 ) -> Result<bool, End>
-    ensures { ToldEnd result (replies_to session.old (one_ask ask)) (O.state out.old) (O.state out.new) }
+    ensures told { ToldEnd result (replies_to session.old (one_ask ask)) (O.state out.old) (O.state out.new) }
+    ensures next { OnOk result (session.new ≡ session.old) }
 {
     let command = Command::Ask(ask);
     let reply = reply_to_command(alloc, session, 1, command, products, pushes)?;
@@ -218,7 +220,8 @@ fn status_of(end: Result<bool, End>) -> Status
 }
 
 /// Does what the lines of a script say, each on the network that the lines above it left, and writes the replies. A line that is
-/// refused changes nothing, and the lines below it go on. Done where none is refused.
+/// refused changes nothing, and the lines below it go on. Done where none is refused, else SomeRefused; WriteFault where a put
+/// failed, and then some first bytes of the replies were written. It keeps nothing of the lines above but the network.
 pub fn run_script<O: Sink, M: Ledger, P: Ledger>(
     alloc: Global,
     session: &mut Session,
@@ -228,12 +231,13 @@ pub fn run_script<O: Sink, M: Ledger, P: Ledger>(
     pushes: &mut Steps<P>,
 ) -> Status
     requires { length script.now ≤ 67108864 }
-    ensures { let replies = replies_to session.old (script_sayings script.now) in Replied (replies_status replies) result (replies_text replies) (O.state out.old) (O.state out.new) }
+    ensures replied { let replies = replies_to session.old (script_sayings script.now) in Replied (replies_status replies) result (replies_text replies) (O.state out.old) (O.state out.new) }
+    ensures network { result ≢ Status.WriteFault → result ≢ Status.NoMemory → session.new ≡ network_after session.old (script_sayings script.now) }
 {
     status_of(play_lines(alloc, session, script, out, products, pushes))
 }
 
-/// Answers an ask as a script of that one line, and writes the reply.
+/// Answers an ask as a script of that one line, and writes the reply. The statuses are those of `run_script`.
 pub fn run_ask<O: Sink, M: Ledger, P: Ledger>(
     alloc: Global,
     session: &mut Session,
@@ -242,7 +246,8 @@ pub fn run_ask<O: Sink, M: Ledger, P: Ledger>(
     products: &mut Steps<M>,
     pushes: &mut Steps<P>,
 ) -> Status
-    ensures { let replies = replies_to session.old (one_ask ask) in Replied (replies_status replies) result (replies_text replies) (O.state out.old) (O.state out.new) }
+    ensures replied { let replies = replies_to session.old (one_ask ask) in Replied (replies_status replies) result (replies_text replies) (O.state out.old) (O.state out.new) }
+    ensures network { result ≢ Status.WriteFault → result ≢ Status.NoMemory → session.new ≡ session.old }
 {
     status_of(play_ask(alloc, session, ask, out, products, pushes))
 }

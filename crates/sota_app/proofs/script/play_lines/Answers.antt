@@ -1,7 +1,6 @@
-use Rattle.std.proofs.Common.{rules, ◌≡◌, ◌∷◌, ◌++◌, map, Err, subst, sym}
+use Rattle.std.proofs.Common.{rules, ◌≡◌, map, Err}
 use Rattle.std.proofs.lemmas.List.{map-append}
-use Rattle.sota_app.specs.Script.{Saying, script_sayings, ToldEnd, replies_to}
-use Rattle.sota_app.proofs.Reaches.{Reached, reach_none, reach_more, reach_all, ends_at}
+use Rattle.sota_app.proofs.Reaches.{reach_none, reach_more, reach_all, reach_network, ends_at}
 use Rattle.sota_app.proofs.Sayings.{saying_at, all_lines, line_done}
 use Rattle.sota_app.proofs.script.play_lines.Goals as goal
 
@@ -12,8 +11,8 @@ loop-line-init g c = record {
   reached = reach_none _ _;
 }
 
-pub returns-in_err-refused : goal.returns-in_err-refused
-returns-in_err-refused g c =
+pub returns-in_err-refused-clause-told : goal.returns-in_err-refused-clause-told
+returns-in_err-refused-clause-told g c =
     let lines = rw c.in-Some.ensures.steps at c.loop-line.invariant.lines in
     let is : c.from_residual.result ≡ Err c.in_err-refused.field-0.0 = search rules in
     rw is (rw lines (ends_at c.in_err-refused.field-0.0 (map (saying_at c.args.script.now) c.loop-line.yielded) (saying_at c.args.script.now c.in-Some.line) (map (saying_at c.args.script.now) c.next.new.self)
@@ -31,7 +30,12 @@ loop-line-preserved g c =
           (g.O.Sink.state c.args.out.now) (g.O.Sink.state c.loop-line.out) (g.O.Sink.state c.play_line.new.out) c.loop-line.invariant.reached c.in_ok-refused.ensures.told c.in_ok-refused.ensures.next);
     }
 
-pub returns : goal.returns
-returns g c =
+pub returns-clause-told : goal.returns-clause-told
+returns-clause-told g c =
     let lines = rw c.in-None.ensures.steps.0 at c.loop-line.invariant.lines in
     reach_all _ _ _ c.loop-line.session _ _ _ lines c.loop-line.invariant.reached
+
+pub returns-clause-next : goal.returns-clause-next
+returns-clause-next g c =
+    let lines = rw c.in-None.ensures.steps.0 at c.loop-line.invariant.lines in
+    reach_network _ _ _ _ _ _ _ lines c.loop-line.invariant.reached
