@@ -219,9 +219,10 @@ fn status_of(end: Result<bool, End>) -> Status
     }
 }
 
-/// Does what the lines of a script say, each on the network that the lines above it left, and writes the replies. A line that is
-/// refused changes nothing, and the lines below it go on. Done where none is refused, else SomeRefused; WriteFault where a put
-/// failed, and then some first bytes of the replies were written. It keeps nothing of the lines above but the network.
+/// Does what the lines of a script say, each on the network that the lines above it left, and writes
+/// the replies. A line that is refused changes nothing, and the lines below it go on. Done where none
+/// is refused, else SomeRefused; WriteFault where a put failed, and then only some first bytes of the
+/// replies were written. It keeps nothing of the lines above but the network.
 pub fn run_script<O: Sink, M: Ledger, P: Ledger>(
     alloc: Global,
     session: &mut Session,
@@ -237,7 +238,8 @@ pub fn run_script<O: Sink, M: Ledger, P: Ledger>(
     status_of(play_lines(alloc, session, script, out, products, pushes))
 }
 
-/// Answers an ask as a script of that one line, and writes the reply. The statuses are those of `run_script`.
+/// Answers an ask as a script of that one line, and writes the reply. The statuses are those of
+/// `run_script`.
 pub fn run_ask<O: Sink, M: Ledger, P: Ledger>(
     alloc: Global,
     session: &mut Session,
