@@ -1,5 +1,5 @@
 -- An edit has few pairs, since its line is short.
-use Rattle.std.specs.Prelude.{ℕ, ◌<◌, ◌^◌, length}
+use Rattle.std.specs.Prelude.{◌<◌, ◌^◌, length}
 use Rattle.sota_script.specs.declared.command.Command.{Command}
 use Rattle.sota_script.specs.declared.command.Command.TheVariants as commands
 
