@@ -6,3 +6,4 @@ pub mod Answered
 pub mod Reaches
 pub mod Sayings
 pub mod EachLine
+pub mod ReadTexts

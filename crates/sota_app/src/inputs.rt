@@ -4,17 +4,37 @@ ghost use Rattle.sota_network.specs.Network.{IsNet};
 ghost use Rattle.sota_dimacs.specs.Graph.{IsGraph};
 ghost use Rattle.sota_histcsv.specs.Certain.{certain_net};
 ghost use Rattle.sota_app.specs.Refusals.{input_limit};
-ghost use Rattle.sota_app.specs.Outcome.{or_refused, loaded, read_graph, graph_of, read_hists, with_hists, network_of};
-ghost use Rattle.sota_app.specs.Causes.{Unread, UnreadHists, UnreadNetwork};
-ghost use Rattle.sota_app.specs.Inputs.{TextRead, InputRead};
+ghost use Rattle.sota_app.specs.Outcome.{or_refused, loaded, read_graph, graph_of};
+ghost use Rattle.sota_app.specs.Outcome.{read_hists, with_hists, network_of, work_of};
+ghost use Rattle.sota_app.specs.Causes.{Unread, UnreadHists, UnreadNetwork, UnreadInput};
+ghost use Rattle.sota_app.specs.Inputs.{TextRead, InputRead, task_work, AreWithin};
 ghost use Rattle.sota_app.specs.declared.refusal.Refusal.TheVariants.{Hists};
+ghost use Rattle.sota_app.specs.declared.words.Command.TheVariants.{Ask, Run};
 
 use crate::refusal::{Input, Refusal};
+use crate::words::{AskWords, Command, RunWords};
 use sota_dimacs::{GraphFault, RawGraph, read_graph};
 use sota_edge::{Desk, LoadError};
 use sota_histcsv::{HistFileFault, certain_network, read_histograms};
 use sota_network::Network;
+use sota_script::Ask3;
 use std::alloc::Global;
+
+/// A network, and what is said of it.
+#[derive(Drop)]
+pub struct Task {
+    pub network: Network,
+    pub lines: Lines,
+}
+
+/// What is said, line by line.
+#[derive(Drop)]
+pub enum Lines {
+    /// One ask.
+    Ask(Ask3),
+    /// The text of a script.
+    Script(Vec<u8>),
+}
 
 /// Why there are no inputs.
 #[derive(Clone, Copy, Debug, PartialEq, Eq)]
@@ -103,8 +123,8 @@ fn load_hists<D: Desk>(
     desk: &mut D,
 ) -> Result<Network, InputEnd>
     requires { IsGraph graph }
-    ensures { InputRead (λ network. network) result (λ files. with_hists name.now files graph) (UnreadHists name.now)
-        (D.state desk.old) (D.state desk.new) }
+    ensures { InputRead (λ network. network) result (λ files. with_hists name.now files graph)
+        (UnreadHists name.now) (D.state desk.old) (D.state desk.new) }
 {
     if name == "-" {
         return take_weights(alloc, graph);
@@ -114,7 +134,7 @@ fn load_hists<D: Desk>(
 }
 
 /// The network of the graph in the file of this name and of a word for its histograms.
-pub fn read_network<D: Desk>(
+fn read_network<D: Desk>(
     alloc: Global,
     graph: &str,
     hists: &str,
@@ -128,4 +148,54 @@ pub fn read_network<D: Desk>(
     let network = load_hists(alloc, hists, roads, desk)?;
     network.is_valid();
     Ok(network)
+}
+
+/// What `ask` says of the network of its files.
+fn read_ask_task<D: Desk>(
+    alloc: Global,
+    said: &AskWords<'_>,
+    desk: &mut D,
+) -> Result<Task, InputEnd>
+    ensures read { InputRead task_work result (work_of (Ask said.now)) (UnreadInput (Ask said.now))
+        (D.state desk.old) (D.state desk.new) }
+    ensures valid { IfOk result (λ task. IsNet task.network) }
+    ensures within { IfOk result (λ task. AreWithin task.lines) }
+{
+    let network = read_network(alloc, said.graph, said.hists, desk)?;
+    let lines = Lines::Ask(said.ask);
+    Ok(Task { network, lines })
+}
+
+/// What the script of `run` says of the network of its files.
+fn read_run_task<D: Desk>(
+    alloc: Global,
+    said: &RunWords<'_>,
+    desk: &mut D,
+) -> Result<Task, InputEnd>
+    ensures read { InputRead task_work result (work_of (Run said.now)) (UnreadInput (Run said.now))
+        (D.state desk.old) (D.state desk.new) }
+    ensures valid { IfOk result (λ task. IsNet task.network) }
+    ensures within { IfOk result (λ task. AreWithin task.lines) }
+{
+    let network = read_network(alloc, said.graph, said.hists, desk)?;
+    let script = load_input(alloc, Input::Script, said.script, desk)?;
+    let lines = Lines::Script(script);
+    Ok(Task { network, lines })
+}
+
+/// What a command says of the network of its files.
+pub fn read_task<D: Desk>(
+    alloc: Global,
+    command: &Command<'_>,
+    desk: &mut D,
+) -> Result<Task, InputEnd>
+    ensures read { InputRead task_work result (work_of command.now) (UnreadInput command.now)
+        (D.state desk.old) (D.state desk.new) }
+    ensures valid { IfOk result (λ task. IsNet task.network) }
+    ensures within { IfOk result (λ task. AreWithin task.lines) }
+{
+    match command {
+        Command::Ask(said) => read_ask_task(alloc, said, desk),
+        Command::Run(said) => read_run_task(alloc, said, desk),
+    }
 }
