@@ -45,18 +45,32 @@ fn run_line<D: Desk, O: Sink>(
     Ok(run_counted::<D, O, Brand>(alloc, &words, desk, out, Blank::new(1)))
 }
 
-/// Whether the words get this reply and this status, where the file `g` holds the graph, `h` the histograms, and nothing fails.
+/// What the files `g`, `h` and `s` hold.
+#[derive(Clone, Copy)]
+struct Texts<'a> {
+    graph: &'a [u8],
+    hists: &'a [u8],
+    script: &'a [u8],
+}
+
+const NET_A: Texts<'static> = Texts {
+    graph: TRIANGLE,
+    hists: TIMES,
+    script: b"",
+};
+
+/// Whether the words get this reply and this status over these files, where nothing fails.
 fn gets(
     alloc: Global,
-    graph: &[u8],
-    hists: &[u8],
+    texts: &Texts<'_>,
     line: &str,
     reply: &[u8],
     status: Status,
 ) -> Result<bool, Fail> {
     let mut desk = SureDesk::new(alloc);
-    desk.insert("g", graph.to_vec(alloc)?)?;
-    desk.insert("h", hists.to_vec(alloc)?)?;
+    desk.insert("g", texts.graph.to_vec(alloc)?)?;
+    desk.insert("h", texts.hists.to_vec(alloc)?)?;
+    desk.insert("s", texts.script.to_vec(alloc)?)?;
     let mut out = SureSink::new(alloc);
     let answer = run_line(alloc, line, &mut desk, &mut out)?;
     Ok(answer == status && out.written() == reply)
@@ -67,7 +81,7 @@ fn replies(rt: HostRuntime) -> Result<(), Fail> {
     let alloc = rt.alloc();
     let parallel = b"p sp 2 2\na 1 2 5\na 1 2 5\n".as_slice();
     let blanks = b"c x\r\n\r\np\tsp 3 3 \r\n a 1\t2 1\r\na 2 3 1\r\n\t\r\na 1 3 3\r\n".as_slice();
-    let rows: [(&[u8], &str, &[u8], Status); 28] = [
+    let rows: [(&[u8], &str, &[u8], Status); 29] = [
         (
             TRIANGLE,
             "ask g - 1 3 2",
@@ -148,7 +162,8 @@ fn replies(rt: HostRuntime) -> Result<(), Fail> {
             b"refused words\n",
             Status::Words,
         ),
-        (TRIANGLE, "run g - s", b"refused words\n", Status::Words),
+        (TRIANGLE, "run g -", b"refused words\n", Status::Words),
+        (TRIANGLE, "check g - s", b"refused words\n", Status::Words),
         (TRIANGLE, "ask nowhere h 1 3 2", b"", Status::ReadFault),
         (TRIANGLE, "ask g nowhere 1 3 2", b"", Status::ReadFault),
         (
@@ -213,7 +228,8 @@ fn replies(rt: HostRuntime) -> Result<(), Fail> {
         ),
     ];
     for (graph, line, reply, status) in rows {
-        assert!(rt; gets(alloc, graph, b"", line, reply, status)?, "{line}");
+        let texts = Texts { graph, ..NET_A };
+        assert!(rt; gets(alloc, &texts, line, reply, status)?, "{line}");
     }
     Ok(())
 }
@@ -334,7 +350,12 @@ fn replies_with_histograms(rt: HostRuntime) -> Result<(), Fail> {
         reply.bytes(b" ")?;
         reply.bytes(bounds)?;
         reply.bytes(b"\n")?;
-        let same = gets(alloc, graph, hists, &line, reply.as_bytes(), Status::Done)?;
+        let texts = Texts {
+            graph,
+            hists,
+            ..NET_A
+        };
+        let same = gets(alloc, &texts, &line, reply.as_bytes(), Status::Done)?;
         assert!(rt; same, "{ask}");
     }
     Ok(())
@@ -362,17 +383,63 @@ fn histograms_that_are_refused(rt: HostRuntime) -> Result<(), Fail> {
         (b"arc,tick,mass/4\n1,1,2\n1,2,1", b"refused hists Sum 1\n"),
     ];
     for (hists, reply) in rows {
+        let texts = Texts { hists, ..NET_A };
+        assert!(rt; gets(alloc, &texts, "ask g h 9 9 9", reply, Status::Input)?);
+    }
+    Ok(())
+}
+
+// An edit between two asks.
+const EDITED: &[u8] = b"ask 1 3 2\nedit 2 1:4\nask 1 3 2\n";
+
+const EDITED_REPLIES: &[u8] = b"answer 1 3 2 0.500000000000000000 0.500000000000000000 1
+edited 2
+answer 1 3 2 1.000000000000000000 1.000000000000000000 1
+";
+
+#[test]
+fn scripts(rt: HostRuntime) -> Result<(), Fail> {
+    let alloc = rt.alloc();
+    let faulty = b"edit 9 1:4\nedit 2 1:3\nask 1 3 x\nask 1 3 3";
+    let faults = b"refused 1 NoArc
+refused 2 Sum
+refused 3 Number
+answer 1 3 3 0.750000000000000000 0.750000000000000000 3
+";
+    let unreadable = b"go\nask 1 3\nedit 2 1-4";
+    let unread = b"refused 1 Word\nrefused 2 Count\nrefused 3 Number\n";
+    let rows: [(&[u8], &[u8], Status); 6] = [
+        (EDITED, EDITED_REPLIES, Status::Done),
+        (faulty, faults, Status::SomeRefused),
+        (b"edit 9 1:3", b"refused 1 Sum\n", Status::SomeRefused),
+        (unreadable, unread, Status::SomeRefused),
+        (b"", b"", Status::Done),
+        (b"\n# note\n", b"", Status::Done),
+    ];
+    for (script, reply, status) in rows {
+        let texts = Texts { script, ..NET_A };
+        assert!(rt; gets(alloc, &texts, "run g h s", reply, status)?);
+    }
+    for line in ["run nowhere h s", "run g nowhere s", "run g h nowhere"] {
         assert!(rt;
-            gets(
-                alloc,
-                TRIANGLE,
-                hists,
-                "ask g h 9 9 9",
-                reply,
-                Status::Input
-            )?
+            gets(alloc, &NET_A, line, b"", Status::ReadFault)?,
+            "{line}"
         );
     }
+    Ok(())
+}
+
+#[test]
+fn a_put_fails_within_a_script(rt: HostRuntime) -> Result<(), Fail> {
+    let alloc = rt.alloc();
+    let mut desk = MemoryDesk::new(alloc, Vec::new(alloc));
+    desk.insert("g", TRIANGLE.to_vec(alloc)?)?;
+    desk.insert("h", TIMES.to_vec(alloc)?)?;
+    desk.insert("s", EDITED.to_vec(alloc)?)?;
+    let mut out = MemorySink::new(alloc, 1000, [2].to_vec(alloc)?);
+    assert!(rt; run_line(alloc, "run g h s", &mut desk, &mut out)? == Status::WriteFault);
+    // The first line alone.
+    assert!(rt; out.written().len() == 57 && EDITED_REPLIES.starts_with(out.written()));
     Ok(())
 }
 
@@ -418,20 +485,24 @@ fn inputs_of_the_greatest_length(rt: HostRuntime) -> Result<(), Fail> {
         }
     }
     let reply = b"answer 1 3 2 1.000000000000000000 1.000000000000000000 1\n";
-    assert!(rt; gets(alloc, &graph, b"", "ask g - 1 3 2", reply, Status::Done)?);
+    let texts = Texts {
+        graph: &graph,
+        ..NET_A
+    };
+    assert!(rt; gets(alloc, &texts, "ask g - 1 3 2", reply, Status::Done)?);
     graph.push(b'c')?;
-    let reply = b"refused graph TooLong 67108864\n";
-    assert!(rt; gets(alloc, &graph, b"", "ask g - 1 3 2", reply, Status::Input)?);
-    let reply = b"refused hists TooLong 67108864\n";
-    assert!(rt;
-        gets(
-            alloc,
-            TRIANGLE,
-            &graph,
-            "ask g h 1 3 2",
-            reply,
-            Status::Input
-        )?
-    );
+    // One text that is too long stands for each input in turn.
+    let mut desk = SureDesk::new(alloc);
+    desk.insert("g", TRIANGLE.to_vec(alloc)?)?;
+    desk.insert("long", graph)?;
+    let mut out = SureSink::new(alloc);
+    for line in ["ask long - 1 3 2", "ask g long 1 3 2", "run g - long"] {
+        assert!(rt; run_line(alloc, line, &mut desk, &mut out)? == Status::Input);
+    }
+    let replies = b"refused graph TooLong 67108864
+refused hists TooLong 67108864
+refused script TooLong 67108864
+";
+    assert!(rt; out.written() == replies.as_slice());
     Ok(())
 }
