@@ -3,3 +3,7 @@ pub mod Exact
 pub mod Begun
 pub mod RefusedInputs
 pub mod Answered
+pub mod Reaches
+pub mod Sayings
+pub mod EachLine
+pub mod ReadTexts

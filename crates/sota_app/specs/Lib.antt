@@ -1,8 +1,8 @@
 pub mod Status
 pub mod Said
 pub mod Words
-pub mod Asks
 pub mod Replies
+pub mod Script
 pub mod Refusals
 pub mod Outcome
 pub mod Causes

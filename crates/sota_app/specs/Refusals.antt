@@ -1,15 +1,22 @@
 -- Inputs that are not accepted, and their lines.
-use Rattle.std.specs.Prelude.{ℕ, List, [], ◌++◌, codes, decimal}
+use Rattle.std.specs.Prelude.{ℕ, List, ◌++◌, codes, decimal}
 use Rattle.sota_dimacs.specs.declared.fault.GraphFault.{GraphFault}
 use Rattle.sota_dimacs.specs.declared.fault.GraphFault.TheVariants as graphs
 use Rattle.sota_histcsv.specs.declared.fault.HistFileFault.{HistFileFault}
 use Rattle.sota_histcsv.specs.declared.fault.HistFileFault.TheVariants as hists
+use Rattle.sota_app.specs.declared.refusal.Input.{Input}
+use Rattle.sota_app.specs.declared.refusal.Input.TheVariants as inputs
 use Rattle.sota_app.specs.declared.refusal.Refusal.{Refusal}
-use Rattle.sota_app.specs.declared.refusal.Refusal.TheVariants.{GraphTooLong, Graph, HistogramsNotYet, Hists}
+use Rattle.sota_app.specs.declared.refusal.Refusal.TheVariants.{TooLong, Graph, Hists}
 
--- the most bytes of a graph
-abbrev pub GRAPH_LIMIT : ℕ
-GRAPH_LIMIT = 67108864
+abbrev pub input_word : Input → List ℕ
+input_word inputs.Graph = codes "graph"
+input_word inputs.Hists = codes "hists"
+input_word inputs.Script = codes "script"
+
+-- the most bytes of an input: 64 MiB
+abbrev pub input_limit : Input → ℕ
+input_limit input = 67108864
 
 -- the names of faults; NoMemory is no fault of a text, so that no line has it
 abbrev pub graph_cause : GraphFault → List ℕ
@@ -62,23 +69,21 @@ hists_place hists.NoMemory = 0
 -- ---- 'refused KIND CAUSE PLACE'
 
 abbrev pub refusal_kind : Refusal → List ℕ
-refusal_kind GraphTooLong = codes "graph"
-refusal_kind (Graph fault) = codes "graph"
-refusal_kind HistogramsNotYet = codes "hists"
-refusal_kind (Hists fault) = codes "hists"
+refusal_kind (TooLong input) = input_word input
+refusal_kind (Graph fault) = input_word inputs.Graph
+refusal_kind (Hists fault) = input_word inputs.Hists
 
 abbrev pub refusal_cause : Refusal → List ℕ
-refusal_cause GraphTooLong = codes "TooLong"
+refusal_cause (TooLong input) = codes "TooLong"
 refusal_cause (Graph fault) = graph_cause fault
-refusal_cause HistogramsNotYet = codes "HistogramsNotYet"
 refusal_cause (Hists fault) = hists_cause fault
 
 abbrev pub refusal_place : Refusal → ℕ
-refusal_place GraphTooLong = GRAPH_LIMIT
+refusal_place (TooLong input) = input_limit input
 refusal_place (Graph fault) = graph_place fault
-refusal_place HistogramsNotYet = 0
 refusal_place (Hists fault) = hists_place fault
 
 abbrev pub refusal_line : Refusal → List ℕ
 refusal_line refusal =
-    codes "refused " ++ refusal_kind refusal ++ codes " " ++ refusal_cause refusal ++ codes " " ++ decimal (refusal_place refusal) ++ codes "\n"
+    codes "refused " ++ refusal_kind refusal ++ codes " " ++ refusal_cause refusal ++ codes " "
+    ++ decimal (refusal_place refusal) ++ codes "\n"

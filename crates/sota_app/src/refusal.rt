@@ -1,6 +1,8 @@
 // Inputs that are not accepted.
 ghost use Rattle.std.specs.Prelude.{◌≡◌, IfOk};
-ghost use Rattle.sota_app.specs.Refusals.{graph_cause, graph_place, hists_cause, hists_place, refusal_kind, refusal_cause, refusal_place, refusal_line};
+ghost use Rattle.sota_app.specs.Refusals.{input_word, input_limit};
+ghost use Rattle.sota_app.specs.Refusals.{graph_cause, graph_place, hists_cause, hists_place};
+ghost use Rattle.sota_app.specs.Refusals.{refusal_kind, refusal_cause, refusal_place, refusal_line};
 
 use sota_dimacs::GraphFault;
 use sota_histcsv::HistFileFault;
@@ -8,19 +10,47 @@ use sota_text::TextOut;
 use sota_units::NoMemory;
 use std::alloc::Global;
 
-/// The most bytes of a graph.
-pub const GRAPH_LIMIT: u32 = 67_108_864;
+// The most bytes of a text.
+const TEXT_LIMIT: u32 = 67_108_864;
+
+/// An input of a command.
+#[derive(Clone, Copy, Debug, PartialEq, Eq)]
+pub enum Input {
+    Graph,
+    Hists,
+    Script,
+}
+
+impl Input {
+    /// Its name in a reply.
+    fn word(self) -> &'static [u8]
+        ensures { result.now ≡ input_word self }
+    {
+        match self {
+            Input::Graph => b"graph",
+            Input::Hists => b"hists",
+            Input::Script => b"script",
+        }
+    }
+
+    /// The most bytes that it may have.
+    pub fn limit(self) -> u32
+        ensures { result ≡ input_limit self }
+    {
+        match self {
+            Input::Graph | Input::Hists | Input::Script => TEXT_LIMIT,
+        }
+    }
+}
 
 /// Why an input is not accepted.
 #[derive(Clone, Copy, Debug, PartialEq, Eq)]
 pub enum Refusal {
-    /// The graph has more than 67,108,864 bytes.
-    GraphTooLong,
+    /// The input has more bytes than its limit.
+    TooLong(Input),
     /// The graph's text has this fault.
     Graph(GraphFault),
-    /// Files of histograms are not read yet.
-    HistogramsNotYet,
-    /// The histograms have this fault.
+    /// The histograms have this fault, or the arcs that have none.
     Hists(HistFileFault),
 }
 
@@ -98,8 +128,9 @@ impl Refusal {
         ensures { result.now ≡ refusal_kind self }
     {
         match self {
-            Refusal::GraphTooLong | Refusal::Graph(_) => b"graph",
-            Refusal::HistogramsNotYet | Refusal::Hists(_) => b"hists",
+            Refusal::TooLong(input) => input.word(),
+            Refusal::Graph(_) => Input::Graph.word(),
+            Refusal::Hists(_) => Input::Hists.word(),
         }
     }
 
@@ -108,9 +139,8 @@ impl Refusal {
         ensures { result.now ≡ refusal_cause self }
     {
         match self {
-            Refusal::GraphTooLong => b"TooLong",
+            Refusal::TooLong(_) => b"TooLong",
             Refusal::Graph(fault) => graph_word(fault),
-            Refusal::HistogramsNotYet => b"HistogramsNotYet",
             Refusal::Hists(fault) => hists_word(fault),
         }
     }
@@ -120,9 +150,8 @@ impl Refusal {
         ensures { result ≡ refusal_place self }
     {
         match self {
-            Refusal::GraphTooLong => GRAPH_LIMIT,
+            Refusal::TooLong(input) => input.limit(),
             Refusal::Graph(fault) => graph_number(fault),
-            Refusal::HistogramsNotYet => 0,
             Refusal::Hists(fault) => hists_number(fault),
         }
     }

@@ -3,6 +3,7 @@ ghost use Rattle.std.specs.Prelude.{◌≡◌, ◌<◌, ◌≤◌};
 
 use crate::{Status, run};
 use sota_edge::{Desk, MemoryDesk, MemorySink, Sink, SureDesk, SureSink};
+use sota_text::TextOut;
 use sota_units::Steps;
 use std::alloc::Global;
 use std::marker::Brand;
@@ -11,6 +12,9 @@ use std::test::Fail;
 
 // Roads from 1 to 2 and from 2 to 3 in one tick each, and from 1 to 3 in three.
 const TRIANGLE: &[u8] = b"p sp 3 3\na 1 2 1\na 2 3 1\na 1 3 3\n";
+
+// Over 4: the second road takes one or three ticks, and the third three or five.
+const TIMES: &[u8] = b"arc,tick,mass/4\n2,1,2\n2,3,2\n3,3,3\n3,5,1\n";
 
 fn run_counted<D: Desk, O: Sink, L: Ledger>(
     alloc: Global,
@@ -41,16 +45,32 @@ fn run_line<D: Desk, O: Sink>(
     Ok(run_counted::<D, O, Brand>(alloc, &words, desk, out, Blank::new(1)))
 }
 
-/// Whether the words get this reply and this status, over one file `g` and nothing that fails.
+/// What the files `g`, `h` and `s` hold.
+#[derive(Clone, Copy)]
+struct Texts<'a> {
+    graph: &'a [u8],
+    hists: &'a [u8],
+    script: &'a [u8],
+}
+
+const NET_A: Texts<'static> = Texts {
+    graph: TRIANGLE,
+    hists: TIMES,
+    script: b"",
+};
+
+/// Whether the words get this reply and this status over these files, where nothing fails.
 fn gets(
     alloc: Global,
-    graph: &[u8],
+    texts: &Texts<'_>,
     line: &str,
     reply: &[u8],
     status: Status,
 ) -> Result<bool, Fail> {
     let mut desk = SureDesk::new(alloc);
-    desk.insert("g", graph.to_vec(alloc)?)?;
+    desk.insert("g", texts.graph.to_vec(alloc)?)?;
+    desk.insert("h", texts.hists.to_vec(alloc)?)?;
+    desk.insert("s", texts.script.to_vec(alloc)?)?;
     let mut out = SureSink::new(alloc);
     let answer = run_line(alloc, line, &mut desk, &mut out)?;
     Ok(answer == status && out.written() == reply)
@@ -61,7 +81,7 @@ fn replies(rt: HostRuntime) -> Result<(), Fail> {
     let alloc = rt.alloc();
     let parallel = b"p sp 2 2\na 1 2 5\na 1 2 5\n".as_slice();
     let blanks = b"c x\r\n\r\np\tsp 3 3 \r\n a 1\t2 1\r\na 2 3 1\r\n\t\r\na 1 3 3\r\n".as_slice();
-    let rows: [(&[u8], &str, &[u8], Status); 27] = [
+    let rows: [(&[u8], &str, &[u8], Status); 29] = [
         (
             TRIANGLE,
             "ask g - 1 3 2",
@@ -142,13 +162,10 @@ fn replies(rt: HostRuntime) -> Result<(), Fail> {
             b"refused words\n",
             Status::Words,
         ),
-        (TRIANGLE, "run g - s", b"refused words\n", Status::Words),
-        (
-            TRIANGLE,
-            "ask g h 1 3 2",
-            b"refused hists HistogramsNotYet 0\n",
-            Status::Input,
-        ),
+        (TRIANGLE, "run g -", b"refused words\n", Status::Words),
+        (TRIANGLE, "check g - s", b"refused words\n", Status::Words),
+        (TRIANGLE, "ask nowhere h 1 3 2", b"", Status::ReadFault),
+        (TRIANGLE, "ask g nowhere 1 3 2", b"", Status::ReadFault),
         (
             b"p sp 2 1\na 1 2 0\n",
             "ask g - 9 9 9",
@@ -157,7 +174,7 @@ fn replies(rt: HostRuntime) -> Result<(), Fail> {
         ),
         (
             b"",
-            "ask g h 1 1 0",
+            "ask g nowhere 1 1 0",
             b"refused graph NoProblem 0\n",
             Status::Input,
         ),
@@ -211,8 +228,218 @@ fn replies(rt: HostRuntime) -> Result<(), Fail> {
         ),
     ];
     for (graph, line, reply, status) in rows {
-        assert!(rt; gets(alloc, graph, line, reply, status)?, "{line}");
+        let texts = Texts { graph, ..NET_A };
+        assert!(rt; gets(alloc, &texts, line, reply, status)?, "{line}");
     }
+    Ok(())
+}
+
+/// Two roads in a row that take each tick from 1 to 33 with the same mass.
+fn even_times(alloc: Global) -> Result<TextOut, Fail> {
+    let mut text = TextOut::new(alloc);
+    text.bytes(b"arc,tick,mass/33\n")?;
+    for at in 0u32..66 {
+        text.number(u128::from(at / 33 + 1))?;
+        text.bytes(b",")?;
+        text.number(u128::from(at % 33 + 1))?;
+        text.bytes(b",1\n")?;
+    }
+    Ok(text)
+}
+
+#[test]
+fn replies_with_histograms(rt: HostRuntime) -> Result<(), Fail> {
+    let alloc = rt.alloc();
+    let chain = b"p sp 3 2\na 1 2 7\na 2 3 7\n".as_slice();
+    let thirds = b"arc,tick,mass/3\n1,1,1\n1,9,2\n2,9,2\n2,1,1\n".as_slice();
+    let even = even_times(alloc)?;
+    let looped = b"p sp 3 4\na 1 2 1\na 2 3 1\na 1 3 3\na 1 1 1\n".as_slice();
+    let zero = b"p sp 2 1\na 1 2 0\n".as_slice();
+    let further = b"arc,tick,mass/4\n2,1,2\n2,3,2\n3,3,3\n3,5,1\n1,0,0\n".as_slice();
+    let rows: [(&[u8], &[u8], &str, &[u8]); 14] = [
+        (
+            TRIANGLE,
+            TIMES,
+            "3 3 0",
+            b"1.000000000000000000 1.000000000000000000 -",
+        ),
+        (
+            TRIANGLE,
+            TIMES,
+            "1 3 1",
+            b"0.000000000000000000 0.000000000000000000 -",
+        ),
+        (
+            TRIANGLE,
+            TIMES,
+            "3 1 9",
+            b"0.000000000000000000 0.000000000000000000 -",
+        ),
+        (
+            TRIANGLE,
+            TIMES,
+            "1 3 2",
+            b"0.500000000000000000 0.500000000000000000 1",
+        ),
+        (
+            TRIANGLE,
+            TIMES,
+            "1 3 3",
+            b"0.750000000000000000 0.750000000000000000 3",
+        ),
+        (
+            TRIANGLE,
+            TIMES,
+            "1 3 4",
+            b"1.000000000000000000 1.000000000000000000 1",
+        ),
+        (
+            chain,
+            thirds,
+            "1 3 2",
+            b"0.111111111111111111 0.111111111111111112 1",
+        ),
+        (
+            looped,
+            TIMES,
+            "1 3 3",
+            b"0.750000000000000000 0.750000000000000000 3",
+        ),
+        (
+            zero,
+            b"arc,tick,mass/1\n1,4,1",
+            "1 2 4",
+            b"1.000000000000000000 1.000000000000000000 1",
+        ),
+        (
+            TRIANGLE,
+            further,
+            "1 3 3",
+            b"0.750000000000000000 0.750000000000000000 3",
+        ),
+        (
+            chain,
+            even.as_bytes(),
+            "1 3 33",
+            b"0.484848484848484848 0.484848484848484849 1",
+        ),
+        (
+            chain,
+            even.as_bytes(),
+            "1 3 50",
+            b"0.875114784205693296 0.875114784205693297 1",
+        ),
+        (
+            chain,
+            even.as_bytes(),
+            "1 3 70",
+            b"1.000000000000000000 1.000000000000000000 1",
+        ),
+        (
+            TRIANGLE,
+            b"\xef\xbb\xbfarc,tick,mass/4\n",
+            "1 3 2",
+            b"1.000000000000000000 1.000000000000000000 1",
+        ),
+    ];
+    for (graph, hists, ask, bounds) in rows {
+        let line = format!(in alloc; "ask g h {ask}")?;
+        let mut reply = TextOut::new(alloc);
+        reply.bytes(b"answer ")?;
+        reply.bytes(ask.as_bytes())?;
+        reply.bytes(b" ")?;
+        reply.bytes(bounds)?;
+        reply.bytes(b"\n")?;
+        let texts = Texts {
+            graph,
+            hists,
+            ..NET_A
+        };
+        let same = gets(alloc, &texts, &line, reply.as_bytes(), Status::Done)?;
+        assert!(rt; same, "{ask}");
+    }
+    Ok(())
+}
+
+#[test]
+fn histograms_that_are_refused(rt: HostRuntime) -> Result<(), Fail> {
+    let alloc = rt.alloc();
+    let rows: [(&[u8], &[u8]); 10] = [
+        (b"", b"refused hists Header 0\n"),
+        (b"arc,tick,mass/1000000001", b"refused hists Header 0\n"),
+        (
+            b"\xef\xbb\xbf\xef\xbb\xbfarc,tick,mass/4\n",
+            b"refused hists Header 0\n",
+        ),
+        (b"arc,tick,mass/4\n1,2", b"refused hists Fields 1\n"),
+        (b"arc,tick,mass/4\n1,2,x", b"refused hists Number 1\n"),
+        (b"arc,tick,mass/4\n1,2,\xff", b"refused hists Number 1\n"),
+        (b"arc,tick,mass/4\n9,0,0", b"refused hists NoArc 1\n"),
+        (b"arc,tick,mass/4\n1,0,1", b"refused hists ZeroTick 1\n"),
+        (
+            b"arc,tick,mass/4\n1,2,1\n1,2,3",
+            b"refused hists RepeatedTick 2\n",
+        ),
+        (b"arc,tick,mass/4\n1,1,2\n1,2,1", b"refused hists Sum 1\n"),
+    ];
+    for (hists, reply) in rows {
+        let texts = Texts { hists, ..NET_A };
+        assert!(rt; gets(alloc, &texts, "ask g h 9 9 9", reply, Status::Input)?);
+    }
+    Ok(())
+}
+
+// An edit between two asks.
+const EDITED: &[u8] = b"ask 1 3 2\nedit 2 1:4\nask 1 3 2\n";
+
+const EDITED_REPLIES: &[u8] = b"answer 1 3 2 0.500000000000000000 0.500000000000000000 1
+edited 2
+answer 1 3 2 1.000000000000000000 1.000000000000000000 1
+";
+
+#[test]
+fn scripts(rt: HostRuntime) -> Result<(), Fail> {
+    let alloc = rt.alloc();
+    let faulty = b"edit 9 1:4\nedit 2 1:3\nask 1 3 x\nask 1 3 3";
+    let faults = b"refused 1 NoArc
+refused 2 Sum
+refused 3 Number
+answer 1 3 3 0.750000000000000000 0.750000000000000000 3
+";
+    let unreadable = b"go\nask 1 3\nedit 2 1-4";
+    let unread = b"refused 1 Word\nrefused 2 Count\nrefused 3 Number\n";
+    let rows: [(&[u8], &[u8], Status); 6] = [
+        (EDITED, EDITED_REPLIES, Status::Done),
+        (faulty, faults, Status::SomeRefused),
+        (b"edit 9 1:3", b"refused 1 Sum\n", Status::SomeRefused),
+        (unreadable, unread, Status::SomeRefused),
+        (b"", b"", Status::Done),
+        (b"\n# note\n", b"", Status::Done),
+    ];
+    for (script, reply, status) in rows {
+        let texts = Texts { script, ..NET_A };
+        assert!(rt; gets(alloc, &texts, "run g h s", reply, status)?);
+    }
+    for line in ["run nowhere h s", "run g nowhere s", "run g h nowhere"] {
+        assert!(rt;
+            gets(alloc, &NET_A, line, b"", Status::ReadFault)?,
+            "{line}"
+        );
+    }
+    Ok(())
+}
+
+#[test]
+fn a_put_fails_within_a_script(rt: HostRuntime) -> Result<(), Fail> {
+    let alloc = rt.alloc();
+    let mut desk = MemoryDesk::new(alloc, Vec::new(alloc));
+    desk.insert("g", TRIANGLE.to_vec(alloc)?)?;
+    desk.insert("h", TIMES.to_vec(alloc)?)?;
+    desk.insert("s", EDITED.to_vec(alloc)?)?;
+    let mut out = MemorySink::new(alloc, 1000, [2].to_vec(alloc)?);
+    assert!(rt; run_line(alloc, "run g h s", &mut desk, &mut out)? == Status::WriteFault);
+    // The first line alone.
+    assert!(rt; out.written().len() == 57 && EDITED_REPLIES.starts_with(out.written()));
     Ok(())
 }
 
@@ -221,7 +448,7 @@ fn faults_of_the_outside(rt: HostRuntime) -> Result<(), Fail> {
     let alloc = rt.alloc();
     let line = "ask g - 1 3 2";
     let reply = b"answer 1 3 2 1.000000000000000000 1.000000000000000000 1\n".as_slice();
-    let mut desk = MemoryDesk::new(alloc, [2].to_vec(alloc)?);
+    let mut desk = MemoryDesk::new(alloc, [2, 6].to_vec(alloc)?);
     let mut out = MemorySink::new(alloc, 1000, Vec::new(alloc));
     // The file is not there; then its load fails; then it is read.
     assert!(rt; run_line(alloc, line, &mut desk, &mut out)? == Status::ReadFault);
@@ -229,6 +456,11 @@ fn faults_of_the_outside(rt: HostRuntime) -> Result<(), Fail> {
     assert!(rt; run_line(alloc, line, &mut desk, &mut out)? == Status::ReadFault);
     assert!(rt; out.written() == b"".as_slice());
     assert!(rt; run_line(alloc, line, &mut desk, &mut out)? == Status::Done);
+    assert!(rt; out.written() == reply);
+    // The histograms are not there; then their load fails; the graph was read before.
+    assert!(rt; run_line(alloc, "ask g h 1 3 2", &mut desk, &mut out)? == Status::ReadFault);
+    desk.insert("h", TIMES.to_vec(alloc)?)?;
+    assert!(rt; run_line(alloc, "ask g h 1 3 2", &mut desk, &mut out)? == Status::ReadFault);
     assert!(rt; out.written() == reply);
     // Of a sink that takes one byte at a time, a put fails.
     for fails in [1u32, 2, 9, 57] {
@@ -243,7 +475,7 @@ fn faults_of_the_outside(rt: HostRuntime) -> Result<(), Fail> {
 }
 
 #[test]
-fn a_graph_of_the_greatest_length(rt: HostRuntime) -> Result<(), Fail> {
+fn inputs_of_the_greatest_length(rt: HostRuntime) -> Result<(), Fail> {
     let alloc = rt.alloc();
     // A comment fills it up.
     let mut graph = vec![in alloc; b'c'; 67_108_864]?;
@@ -253,9 +485,24 @@ fn a_graph_of_the_greatest_length(rt: HostRuntime) -> Result<(), Fail> {
         }
     }
     let reply = b"answer 1 3 2 1.000000000000000000 1.000000000000000000 1\n";
-    assert!(rt; gets(alloc, &graph, "ask g - 1 3 2", reply, Status::Done)?);
+    let texts = Texts {
+        graph: &graph,
+        ..NET_A
+    };
+    assert!(rt; gets(alloc, &texts, "ask g - 1 3 2", reply, Status::Done)?);
     graph.push(b'c')?;
-    let reply = b"refused graph TooLong 67108864\n";
-    assert!(rt; gets(alloc, &graph, "ask g - 1 3 2", reply, Status::Input)?);
+    // One text that is too long stands for each input in turn.
+    let mut desk = SureDesk::new(alloc);
+    desk.insert("g", TRIANGLE.to_vec(alloc)?)?;
+    desk.insert("long", graph)?;
+    let mut out = SureSink::new(alloc);
+    for line in ["ask long - 1 3 2", "ask g long 1 3 2", "run g - long"] {
+        assert!(rt; run_line(alloc, line, &mut desk, &mut out)? == Status::Input);
+    }
+    let replies = b"refused graph TooLong 67108864
+refused hists TooLong 67108864
+refused script TooLong 67108864
+";
+    assert!(rt; out.written() == replies.as_slice());
     Ok(())
 }

@@ -1,29 +1,32 @@
 // The top call.
-ghost use Rattle.std.specs.Prelude.{◌≡◌, ◌≢◌, List, ℕ, Some, map, string_bytes};
+ghost use Rattle.std.specs.Prelude.{◌≡◌, ◌≢◌, ◌<◌, Some, map, string_bytes};
+ghost use Rattle.std.specs.Option.{IsSomeAnd};
 ghost use Rattle.sota_edge.specs.Desk.{Files};
 ghost use Rattle.sota_edge.specs.Sink.{WrotePrefix};
-ghost use Rattle.sota_network.specs.Network.{Net};
-ghost use Rattle.sota_app.specs.Said.{AskSaid};
 ghost use Rattle.sota_app.specs.Words.{command_of};
-ghost use Rattle.sota_app.specs.Asks.{ask_fault};
 ghost use Rattle.sota_app.specs.Replies.{Replied};
+ghost use Rattle.sota_app.specs.Script.{replies_to, replies_text, replies_status};
 ghost use Rattle.sota_app.specs.Refusals.{refusal_line};
-ghost use Rattle.sota_app.specs.Outcome.{outcome, outcome_of, network_of};
-ghost use Rattle.sota_app.specs.Inputs.{EndReplied};
+ghost use Rattle.sota_app.specs.Outcome.{outcome, outcome_of};
+ghost use Rattle.sota_app.specs.Inputs.{EndReplied, AreWithin, lines_sayings};
 ghost use Rattle.sota_app.specs.Causes.{Cause, Told, Delivered, NoFault};
-ghost use Rattle.sota_app.specs.Meaning.{IsAnsweredAsk, Meant, HasNetwork};
+ghost use Rattle.sota_app.specs.Meaning.{AskLine, IsAnswered, Meant, IsDone, HasWork};
 ghost use Rattle.sota_app.specs.declared.status.Status.TheVariants.{Input};
 
-use crate::inputs::{InputEnd, read_network};
+use crate::inputs::{InputEnd, Lines, Task, read_task};
 use crate::refusal::Refusal;
-use crate::reply::{reply_ask, write_line};
+use crate::reply::write_line;
+use crate::script::{run_ask, run_script};
 use crate::status::Status;
-use crate::words::{AskWords, Command, read_words};
+use crate::words::{Command, read_words};
 use sota_edge::{Desk, Sink};
-use sota_network::laws::grid_encloses;
+use sota_hist::laws::built_times;
+use sota_network::laws::{edits_keep_networks, grid_encloses};
+use sota_session::Session;
 use sota_units::{NoMemory, Steps};
 use std::alloc::Global;
-use std::sync::ledger::Ledger;
+use std::marker::Brand;
+use std::sync::ledger::{Blank, Ledger};
 
 /// Writes why an input is refused.
 fn reply_refusal<O: Sink>(alloc: Global, refusal: Refusal, out: &mut O) -> Status
@@ -46,39 +49,99 @@ fn reply_end<O: Sink>(alloc: Global, end: InputEnd, out: &mut O) -> Status
     }
 }
 
-/// The command `ask`.
-fn run_ask<D: Desk, O: Sink>(
+/// Does what lines say of a session's network.
+fn run_lines<O: Sink, M: Ledger, P: Ledger>(
     alloc: Global,
-    said: &AskWords<'_>,
+    session: &mut Session,
+    lines: &Lines,
+    out: &mut O,
+    products: &mut Steps<M>,
+    pushes: &mut Steps<P>,
+) -> Status
+    requires { AreWithin lines.now }
+    ensures { let replies = replies_to session.old (lines_sayings lines.now) in
+        Replied (replies_status replies) result (replies_text replies)
+        (O.state out.old) (O.state out.new) }
+{
+    match lines {
+        Lines::Ask(ask) => run_ask(alloc, session, *ask, out, products, pushes),
+        Lines::Script(script) => run_script(alloc, session, script, out, products, pushes),
+    }
+}
+
+/// Does what lines say of a network. The products of the planning are counted with the blank's ledger.
+fn run_task<O: Sink, M: Ledger, P: Ledger>(
+    alloc: Global,
+    task: Task,
+    out: &mut O,
+    blank: Blank,
+    pushes: &mut Steps<P>,
+) -> Status
+    requires within { AreWithin task.lines }
+    requires name { blank.name ≡ M.name }
+    requires parts { blank.parts ≡ M.parts }
+    requires some { 0 < blank.parts }
+    ensures { let replies = replies_to task.network (lines_sayings task.lines) in
+        Replied (replies_status replies) result (replies_text replies)
+        (O.state out.old) (O.state out.new) }
+{
+    let mut products = Steps::<M>::new(blank);
+    match Session::new(alloc, task.network) {
+        Ok(mut session) => {
+            run_lines(alloc, &mut session, &task.lines, out, &mut products, pushes)
+        }
+        Err(NoMemory) => Status::NoMemory,
+    }
+}
+
+/// Does what a command says.
+fn run_command<D: Desk, O: Sink, P: Ledger>(
+    alloc: Global,
+    command: &Command<'_>,
     desk: &mut D,
     out: &mut O,
+    pushes: &mut Steps<P>,
 ) -> Status
-    ensures cause { Cause result (Some (Command.Ask said.now)) (D.state desk.old) (D.state desk.new) (O.state out.old) (O.state out.new) }
-    ensures begun { Told (D.state desk.old) (λ files. WrotePrefix (outcome_of (Some (Command.Ask said.now)) files).text (O.state out.old) (O.state out.new)) }
+    ensures cause { Cause result (Some command.now)
+        (D.state desk.old) (D.state desk.new) (O.state out.old) (O.state out.new) }
+    ensures begun { Told (D.state desk.old) (λ files.
+        WrotePrefix (outcome_of (Some command.now) files).text
+        (O.state out.old) (O.state out.new)) }
     ensures kept { (D.state desk.new).holds ≡ (D.state desk.old).holds }
-    ensures network { result ≡ Status.Done → HasNetwork (Some (Command.Ask said.now)) (D.state desk.old) }
+    ensures work { IsDone result → HasWork command.now (D.state desk.old) }
 {
-    match read_network(alloc, said.graph, said.hists, desk) {
-        Ok(network) => reply_ask(alloc, &network, 1, &said.ask, out),
+    match read_task(alloc, command, desk) {
+        Ok(task) => run_task::<O, Brand, P>(alloc, task, out, Blank::new(1), pushes),
         Err(end) => reply_end(alloc, end, out),
     }
 }
 
 /// Does what `run` does.
-fn answer<D: Desk, O: Sink>(alloc: Global, words: &[String], desk: &mut D, out: &mut O) -> Status
-    ensures cause { Cause result (command_of (map string_bytes words.now)) (D.state desk.old) (D.state desk.new) (O.state out.old) (O.state out.new) }
-    ensures begun { Told (D.state desk.old) (λ files. WrotePrefix (outcome (map string_bytes words.now) files).text (O.state out.old) (O.state out.new)) }
+fn answer<D: Desk, O: Sink, P: Ledger>(
+    alloc: Global,
+    words: &[String],
+    desk: &mut D,
+    out: &mut O,
+    pushes: &mut Steps<P>,
+) -> Status
+    ensures cause { Cause result (command_of (map string_bytes words.now))
+        (D.state desk.old) (D.state desk.new) (O.state out.old) (O.state out.new) }
+    ensures begun { Told (D.state desk.old) (λ files.
+        WrotePrefix (outcome (map string_bytes words.now) files).text
+        (O.state out.old) (O.state out.new)) }
     ensures kept { (D.state desk.new).holds ≡ (D.state desk.old).holds }
-    ensures network { result ≡ Status.Done → HasNetwork (command_of (map string_bytes words.now)) (D.state desk.old) }
+    ensures work { IsDone result
+        → IsSomeAnd (command_of (map string_bytes words.now))
+        (λ command. HasWork command (D.state desk.old)) }
 {
     match read_words(words) {
         None => write_line(out, b"refused words\n", Status::Words),
-        Some(Command::Ask(said)) => run_ask(alloc, &said, desk, out),
+        Some(command) => run_command(alloc, &command, desk, out, pushes),
     }
 }
 
-/// Reads the words behind the program's name and the files that they name, and writes the replies. `pushes` counts entries
-/// that planning pushes to its rows; the plain planner has no rows.
+/// Reads the words behind the program's name and the files that they name, and writes the replies.
+/// `pushes` is for entries that planning pushes to its tables; nothing is promised of it yet.
 pub fn run<D: Desk, O: Sink, P: Ledger>(
     alloc: Global,
     words: &[String],
@@ -87,25 +150,34 @@ pub fn run<D: Desk, O: Sink, P: Ledger>(
     pushes: &mut Steps<P>,
 ) -> Status
     // What stands behind each status.
-    ensures cause { Cause result (command_of (map string_bytes words.now)) (D.state desk.old) (D.state desk.new) (O.state out.old) (O.state out.new) }
+    ensures cause { Cause result (command_of (map string_bytes words.now))
+        (D.state desk.old) (D.state desk.new) (O.state out.old) (O.state out.new) }
 
     // Whatever happens, what is written begins the text of the outcome.
-    ensures begun { Told (D.state desk.old) (λ files. WrotePrefix (outcome (map string_bytes words.now) files).text (O.state out.old) (O.state out.new)) }
+    ensures begun { Told (D.state desk.old) (λ files.
+        WrotePrefix (outcome (map string_bytes words.now) files).text
+        (O.state out.old) (O.state out.new)) }
 
     // No command stores anything.
     ensures kept { (D.state desk.new).holds ≡ (D.state desk.old).holds }
 
     // Where nothing fails, the whole outcome stands.
     ensures exact { (files : Files) → (D.state desk.old).holds ≡ Some files
-        → NoFault (D.state desk.old) (D.state desk.new) (O.state out.old) (O.state out.new) → result ≢ Status.NoMemory
-        → Delivered (outcome (map string_bytes words.now) files) result (D.state desk.old) (D.state desk.new) (O.state out.old) (O.state out.new) }
+        → NoFault (D.state desk.old) (D.state desk.new) (O.state out.old) (O.state out.new)
+        → result ≢ Status.NoMemory
+        → Delivered (outcome (map string_bytes words.now) files) result
+        (D.state desk.old) (D.state desk.new) (O.state out.old) (O.state out.new) }
 
-    // And an ask that is answered gets bounds that enclose its greatest on-time probability.
-    ensures meaning { (files : Files) (said : AskSaid) (net : Net) → (D.state desk.old).holds ≡ Some files
-        → NoFault (D.state desk.old) (D.state desk.new) (O.state out.old) (O.state out.new) → result ≢ Status.NoMemory
-        → IsAnsweredAsk (map string_bytes words.now) files said net → Meant net said.ask (O.state out.old) (O.state out.new) }
+    // And each ask that is answered gets bounds that enclose its greatest on-time probability, on the
+    // network of its line.
+    ensures meaning { (files : Files) (line : AskLine) → (D.state desk.old).holds ≡ Some files
+        → NoFault (D.state desk.old) (D.state desk.new) (O.state out.old) (O.state out.new)
+        → result ≢ Status.NoMemory
+        → IsAnswered (map string_bytes words.now) files line
+        → Meant line (O.state out.old) (O.state out.new) }
 {
-    let _ = pushes;
+    built_times();
+    edits_keep_networks();
     grid_encloses();
-    answer(alloc, words, desk, out)
+    answer(alloc, words, desk, out, pushes)
 }
