@@ -1,3 +1,4 @@
 pub mod Search
 pub mod Faults
 pub mod Cells
+pub mod Regions

@@ -1,11 +1,9 @@
 // The region of an ask.
-ghost use Rattle.std.specs.Prelude.{ℕ, ◌≡◌, ◌-◌, ◌≤◌, length, slice_index_or, IfOk, IfErr, OnOk, None};
+ghost use Rattle.std.specs.Prelude.{◌≡◌, ◌≤◌, IfOk, IfErr, OnOk, None};
 ghost use Rattle.sota_network.specs.Network.{IsNode};
-ghost use Rattle.sota_network.specs.Numbers.{listed};
 ghost use Rattle.sota_network.specs.Grid.{BUDGET_LIMIT};
-ghost use Rattle.sota_network.specs.Walks.{IsLeastTime};
-ghost use Rattle.sota_network.specs.Region.{need, table_cells, broad_cells};
 ghost use Rattle.sota_bounds.specs.Faults.{region_fault, IsFault};
+ghost use Rattle.sota_bounds.specs.Regions.{IsRegion};
 
 use crate::RegionFault;
 use crate::cells::{broad_cells_of, needs_of, table_cells_of};
@@ -53,12 +51,7 @@ pub fn region(
     requires origin { IsNode network.now origin }
     requires dest { IsNode network.now dest }
     requires budget { budget ≤ BUDGET_LIMIT }
-    ensures asked { IfOk result (λ made. (made.origin ≡ origin) × (made.dest ≡ dest) × (made.budget ≡ budget)) }
-    ensures nodes { IfOk result (λ made. length made.least ≡ network.now.nodes) }
-    ensures least { IfOk result (λ made. (i : ℕ) → IsNode network.now i → IsLeastTime network.now dest i dest (slice_index_or made.least (i - 1) None)) }
-    ensures need { IfOk result (λ made. made.need ≡ listed (need network.now origin dest budget) network.now.nodes) }
-    ensures table_cells { IfOk result (λ made. made.table_cells ≡ table_cells network.now origin dest budget) }
-    ensures broad_cells { IfOk result (λ made. made.broad_cells ≡ broad_cells network.now origin dest budget) }
+    ensures made { IfOk result (λ made. IsRegion made network.now origin dest budget) }
     ensures ok { OnOk result (region_fault network.now origin dest budget ≡ None) }
     ensures fault { IfErr result (λ fault. IsFault (region_fault network.now origin dest budget) fault) }
 {
@@ -83,12 +76,7 @@ fn whole_region(
     requires origin { IsNode network.now origin }
     requires dest { IsNode network.now dest }
     requires budget { budget ≤ BUDGET_LIMIT }
-    ensures asked { IfOk result (λ made. (made.origin ≡ origin) × (made.dest ≡ dest) × (made.budget ≡ budget)) }
-    ensures nodes { IfOk result (λ made. length made.least ≡ network.now.nodes) }
-    ensures least { IfOk result (λ made. (i : ℕ) → IsNode network.now i → IsLeastTime network.now dest i dest (slice_index_or made.least (i - 1) None)) }
-    ensures need { IfOk result (λ made. made.need ≡ listed (need network.now origin dest budget) network.now.nodes) }
-    ensures table_cells { IfOk result (λ made. made.table_cells ≡ table_cells network.now origin dest budget) }
-    ensures broad_cells { IfOk result (λ made. made.broad_cells ≡ broad_cells network.now origin dest budget) }
+    ensures { IfOk result (λ made. IsRegion made network.now origin dest budget) }
 {
     region_by_least_times();
     network.is_valid();

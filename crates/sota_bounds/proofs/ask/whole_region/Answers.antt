@@ -1,5 +1,8 @@
-use Rattle.std.proofs.Common.{ℕ, ◌≡◌, length, ◌∙◌, ap, List, Option}
+use Rattle.std.proofs.Common.{ℕ, ◌≡◌, length, ◌∙◌, ap, List, Option, refl, sym, subst}
+use Rattle.sota_network.specs.Network.{IsNode}
+use Rattle.sota_network.specs.Walks.{IsLeastTime}
 use Rattle.sota_network.specs.Numbers.{listed}
+use Rattle.sota_bounds.specs.Search.{time_at}
 use Rattle.sota_bounds.specs.Cells.{need_by, table_by, broad_by}
 use Rattle.sota_bounds.proofs.Counted.{IsAsked, needs-are, table-is, broad-is}
 use Rattle.sota_bounds.proofs.ask.whole_region.Goals as goal
@@ -21,19 +24,18 @@ asked c = record {
 kept : (c : goal.After-drop-from-2) → c.in_ok-need.need.items ≡ listed (need_by c.args.dest c.args.budget c.in_ok-least.least.items c.in_ok-from.from.items) (length c.in_ok-least.least.items)
 kept c = rw (c.deref.ensures.value, c.deref-2.ensures.value) at c.in_ok-need.ensures.value
 
-pub returns-clause-need : goal.returns-clause-need
-returns-clause-need c = c.new-2.ensures ∙ kept c ∙ needs-are c.args.network.now c.args.origin c.args.dest c.args.budget c.in_ok-least.least.items c.in_ok-from.from.items (asked c)
-
-pub returns-clause-table_cells : goal.returns-clause-table_cells
-returns-clause-table_cells c =
-    c.table_cells_of-table_cells.ensures
-    ∙ ap (λ (least : List (Option ℕ)). table_by least c.deref-4.result.now (length least)) c.deref-3.ensures.value
-    ∙ ap (λ (needs : List ℕ). table_by c.in_ok-least.least.items needs (length c.in_ok-least.least.items)) c.deref-4.ensures.value
-    ∙ table-is c.args.network.now c.args.origin c.args.dest c.args.budget c.in_ok-least.least.items c.in_ok-from.from.items (asked c) c.in_ok-need.need.items (kept c)
-
-pub returns-clause-broad_cells : goal.returns-clause-broad_cells
-returns-clause-broad_cells c =
-    c.broad_cells_of-broad_cells.ensures
-    ∙ ap (λ (least : List (Option ℕ)). broad_by c.args.budget least c.deref-6.result.now c.args.network.now.arcs) c.deref-5.ensures.value
-    ∙ ap (λ (needs : List ℕ). broad_by c.args.budget c.in_ok-least.least.items needs c.args.network.now.arcs) c.deref-6.ensures.value
-    ∙ broad-is c.args.network.now c.args.origin c.args.dest c.args.budget c.in_ok-least.least.items c.in_ok-from.from.items (asked c) c.in_ok-need.need.items (kept c)
+pub returns : goal.returns
+returns c = record {
+  asked = (refl, refl, refl);
+  nodes = ap length c.new.ensures ∙ c.in_ok-least.ensures.nodes;
+  least = subst (λ (times : List (Option ℕ)). (i : ℕ) → IsNode c.args.network.now i → IsLeastTime c.args.network.now c.args.dest i c.args.dest (time_at times i)) (sym c.new.ensures) c.in_ok-least.ensures.least;
+  need = c.new-2.ensures ∙ kept c ∙ needs-are c.args.network.now c.args.origin c.args.dest c.args.budget c.in_ok-least.least.items c.in_ok-from.from.items (asked c);
+  table_cells = c.table_cells_of-table_cells.ensures
+      ∙ ap (λ (least : List (Option ℕ)). table_by least c.deref-4.result.now (length least)) c.deref-3.ensures.value
+      ∙ ap (λ (needs : List ℕ). table_by c.in_ok-least.least.items needs (length c.in_ok-least.least.items)) c.deref-4.ensures.value
+      ∙ table-is c.args.network.now c.args.origin c.args.dest c.args.budget c.in_ok-least.least.items c.in_ok-from.from.items (asked c) c.in_ok-need.need.items (kept c);
+  broad_cells = c.broad_cells_of-broad_cells.ensures
+      ∙ ap (λ (least : List (Option ℕ)). broad_by c.args.budget least c.deref-6.result.now c.args.network.now.arcs) c.deref-5.ensures.value
+      ∙ ap (λ (needs : List ℕ). broad_by c.args.budget c.in_ok-least.least.items needs c.args.network.now.arcs) c.deref-6.ensures.value
+      ∙ broad-is c.args.network.now c.args.origin c.args.dest c.args.budget c.in_ok-least.least.items c.in_ok-from.from.items (asked c) c.in_ok-need.need.items (kept c);
+}

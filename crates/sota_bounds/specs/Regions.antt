@@ -1,0 +1,17 @@
+-- What a region that was made holds.
+use Rattle.std.specs.Prelude.{ℕ, ◌≡◌, length}
+use Rattle.sota_network.specs.Network.{Net, IsNode}
+use Rattle.sota_network.specs.Numbers.{listed}
+use Rattle.sota_network.specs.Walks.{IsLeastTime}
+use Rattle.sota_network.specs.Region as region
+use Rattle.sota_bounds.specs.Search.{time_at}
+use Rattle.sota_bounds.specs.declared.ask.AskRegion.{AskRegion}
+
+-- the region of this ask: its numbers, each node's least time to the destination and need, and the two counts
+pub record IsRegion (made : AskRegion) (net : Net) (origin dest budget : ℕ) : Type 0 where
+  pub asked : (made.origin ≡ origin) × (made.dest ≡ dest) × (made.budget ≡ budget)
+  pub nodes : length made.least ≡ net.nodes
+  pub least : (i : ℕ) → IsNode net i → IsLeastTime net dest i dest (time_at made.least i)
+  pub need : made.need ≡ listed (region.need net origin dest budget) net.nodes
+  pub table_cells : made.table_cells ≡ region.table_cells net origin dest budget
+  pub broad_cells : made.broad_cells ≡ region.broad_cells net origin dest budget
