@@ -477,29 +477,28 @@ fn faults_of_the_outside(rt: HostRuntime) -> Result<(), Fail> {
 #[test]
 fn inputs_of_the_greatest_length(rt: HostRuntime) -> Result<(), Fail> {
     let alloc = rt.alloc();
-    // A comment fills it up.
+    // A comment fills the graph up.
     let mut graph = vec![in alloc; b'c'; 67_108_864]?;
     for (at, byte) in TRIANGLE.iter().enumerate() {
         if at < graph.len() {
             graph[at] = *byte;
         }
     }
-    let reply = b"answer 1 3 2 1.000000000000000000 1.000000000000000000 1\n";
-    let texts = Texts {
-        graph: &graph,
-        ..NET_A
-    };
-    assert!(rt; gets(alloc, &texts, "ask g - 1 3 2", reply, Status::Done)?);
-    graph.push(b'c')?;
-    // One text that is too long stands for each input in turn.
     let mut desk = SureDesk::new(alloc);
-    desk.insert("g", TRIANGLE.to_vec(alloc)?)?;
-    desk.insert("long", graph)?;
+    desk.insert("g", graph)?;
+    desk.insert("short", TRIANGLE.to_vec(alloc)?)?;
+    desk.insert("long", vec![in alloc; b'c'; 67_108_865]?)?;
     let mut out = SureSink::new(alloc);
-    for line in ["ask long - 1 3 2", "ask g long 1 3 2", "run g - long"] {
+    assert!(rt; run_line(alloc, "ask g - 1 3 2", &mut desk, &mut out)? == Status::Done);
+    for line in [
+        "ask long - 1 3 2",
+        "ask short long 1 3 2",
+        "run short - long",
+    ] {
         assert!(rt; run_line(alloc, line, &mut desk, &mut out)? == Status::Input);
     }
-    let replies = b"refused graph TooLong 67108864
+    let replies = b"answer 1 3 2 1.000000000000000000 1.000000000000000000 1
+refused graph TooLong 67108864
 refused hists TooLong 67108864
 refused script TooLong 67108864
 ";
