@@ -51,8 +51,9 @@ fn region_of_a_triangle(rt: HostRuntime) -> Result<(), Fail> {
     let made = region(rt.alloc(), &network, NodeId(1), NodeId(3), 3)?;
     assert!(rt; made.need.as_slice() == [4, 3, 0, 0].as_slice());
     assert_eq!(rt; (made.table_cells, made.broad_cells), (4, 0));
-    let times = made.least.into_vec();
-    assert!(rt; times.as_slice() == [Some(2), Some(1), Some(0), None].as_slice());
+    assert!(rt; made.least.as_slice() == [Some(2), Some(1), Some(0), None].as_slice());
+    let AskRegion { least, need, .. } = made;
+    assert_eq!(rt; (least.into_vec().len(), need.into_vec().len()), (4, 4));
     Ok(())
 }
 
