@@ -1,4 +1,5 @@
-// What is true of the definitions themselves. The function does nothing: its contract is the theorem.
+// What is true of the definitions themselves. The function does nothing: its contract is the
+// theorem.
 ghost use Rattle.std.specs.Prelude.{ℕ, ◌≡◌, List, None};
 ghost use Rattle.sota_hist.specs.Time.{IsTime, total};
 ghost use Rattle.sota_hist.specs.Build.{time_of, hist_fault};

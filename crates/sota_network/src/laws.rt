@@ -1,4 +1,5 @@
-// What is true of the definitions themselves. The functions do nothing: their contracts are the theorems.
+// What is true of the definitions themselves. The functions do nothing: their contracts are the
+// theorems.
 ghost use Rattle.std.specs.Prelude.{ℕ, ◌≡◌, ◌≢◌, ◌+◌, ◌*◌, ◌^◌, ◌≤◌, List, Bool, true, false, Option, Some, None};
 ghost use Rattle.sota_units.specs.Rounding.{ONE, floor_by, ceiling_by};
 ghost use Rattle.sota_hist.specs.Time.{IsTime, total};
@@ -16,15 +17,17 @@ pub fn edits_keep_networks()
     ensures { (net : Net) (arc : ℕ) (time : List (ℕ × ℕ)) → IsNet net → IsTime time → total time ≡ net.scale → IsNet (replaced net arc time) }
 {}
 
-/// The values of the grid, and the tree of a rule, are what their recursion makes of those at smaller budgets.
+/// The values of the grid, and the tree of a rule, are what their recursion makes of those at
+/// smaller budgets.
 pub fn grid_recurs()
     ensures lower { (net : Net) (dest i t : ℕ) → IsNet net → lo net dest i t ≡ value_from floor_by net dest (lo net dest) i t }
     ensures upper { (net : Net) (dest i t : ℕ) → IsNet net → hi net dest i t ≡ value_from ceiling_by net dest (hi net dest) i t }
     ensures tree { (net : Net) (rule : ℕ → ℕ → Option ℕ) (dest i t : ℕ) → IsNet net → follow net rule dest i t ≡ follow_step net rule dest (follow net rule dest) i t }
 {}
 
-/// The two values of the grid enclose the greatest on-time probability of all decision trees, the tree of the choices
-/// attains the lower one, and the two differ by at most two units a tick. A rule attains all values that it keeps up.
+/// The two values of the grid enclose the greatest on-time probability of all decision trees, the
+/// tree of the choices attains the lower one, and the two differ by at most two units a tick. A
+/// rule attains all values that it keeps up.
 pub fn grid_encloses()
     ensures encloses { (net : Net) (dest i t : ℕ) → IsNet net → Encloses net dest i t (lo net dest i t) (hi net dest i t) }
     ensures fits { (net : Net) (rule : ℕ → ℕ → Option ℕ) (dest i t : ℕ) → IsNet net → Fits net i (follow net rule dest i t) }
@@ -35,16 +38,17 @@ pub fn grid_encloses()
     ensures whole { (net : Net) (dest i t : ℕ) → IsNet net → hi net dest i t ≤ ONE }
 {}
 
-/// A node reaches another within a number of ticks exactly where the least ticks of some walk sum to no more. Where the
-/// destination is not reached the grid's values are 0.
+/// A node reaches another within a number of ticks exactly where the least ticks of some walk sum
+/// to no more. Where the destination is not reached the grid's values are 0.
 pub fn reaches_by_walks()
     ensures walk { (net : Net) (dest i j t : ℕ) → IsNet net → reaches net dest j i t ≡ true → (n : ℕ) × Walk net dest i j n × (n ≤ t) }
     ensures reach { (net : Net) (dest i j t n : ℕ) → IsNet net → Walk net dest i j n → n ≤ t → reaches net dest j i t ≡ true }
     ensures below { (net : Net) (dest i t : ℕ) → IsNet net → reaches net dest dest i t ≡ false → hi net dest i t ≡ 0 }
 {}
 
-/// Which budgets a node other than the destination has in the region of an ask, how many they are and its need, by its least
-/// times to the destination and from the origin. The destination has none.
+/// Which budgets a node other than the destination has in the region of an ask, how many they are
+/// and its need, by its least times to the destination and from the origin. The destination has
+/// none.
 pub fn region_by_least_times()
     ensures inside { (net : Net) (origin dest last i t : ℕ) (to from : Option ℕ) → IsNet net → i ≢ dest → IsLeastTime net dest i dest to → IsLeastTime net dest origin i from
         → in_region net origin dest last i t ≡ is_between last to from t }
@@ -71,7 +75,8 @@ pub fn worked_examples()
     ensures fork_policy { (score fork 3 1 3 (follow fork (choice fork 3) 3 1 3) ≡ 6) × (fork.scale ^ 3 ≡ 8) }
     ensures fork_routes { (score fork 3 1 3 late_route ≡ 4) × (score fork 3 1 3 certain_route ≡ 4) }
 
-    // The least times to node 3 are 2, 1 and 0, and the region of an ask with 3 ticks has budgets 2 and 3 at node 1, 1 and 2 at node 2.
+    // The least times to node 3 are 2, 1 and 0, and the region of an ask with 3 ticks has budgets 2
+    // and 3 at node 1, 1 and 2 at node 2.
     ensures triangle_reach { (reaches triangle 3 3 1 1 ≡ false) × (reaches triangle 3 3 1 2 ≡ true) × (reaches triangle 3 3 2 0 ≡ false) × (reaches triangle 3 3 2 1 ≡ true) × (reaches triangle 3 3 3 0 ≡ true) }
     ensures triangle_needs { (need triangle 1 3 3 1 ≡ 4) × (need triangle 1 3 3 2 ≡ 3) × (need triangle 1 3 3 3 ≡ 0) }
     ensures triangle_cells { (table_cells triangle 1 3 3 ≡ 4) × (broad_cells triangle 1 3 3 ≡ 0) }

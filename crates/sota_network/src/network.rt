@@ -14,7 +14,8 @@ use std::alloc::Global;
 use std::marker::Model;
 use std::mem;
 
-/// A one-way road from its tail to its head. A mass of its time is a chance over the network's scale.
+/// A one-way road from its tail to its head. A mass of its time is a chance over the network's
+/// scale.
 #[derive(Drop)]
 pub struct Arc {
     pub tail: NodeId,
@@ -28,7 +29,8 @@ pub struct NoArc {
     pub time: Histogram,
 }
 
-/// A road network. Nodes are numbered from 1, and arcs from 1 in the order in which they were handed in.
+/// A road network. Nodes are numbered from 1, and arcs from 1 in the order in which they were
+/// handed in.
 #[derive(Drop)]
 pub struct Network {
     nodes: u32,
@@ -50,8 +52,8 @@ impl Model for Network {
 }
 
 impl Network {
-    /// The network of its parts: nodes from 1 to 1,000,000, at most 4,000,000 arcs between them, and each arc's masses sum
-    /// to the scale. It takes time linear in nodes and arcs.
+    /// The network of its parts: nodes from 1 to 1,000,000, at most 4,000,000 arcs between them,
+    /// and each arc's masses sum to the scale. It takes time linear in nodes and arcs.
     pub fn build(
         alloc: Global,
         nodes: u32,
@@ -135,8 +137,8 @@ impl Network {
         self.entering.of_node(node)
     }
 
-    /// Gives an arc another time, and hands the one before back. NoArc exactly where the number is not from 1 to the number of
-    /// arcs. It takes no memory.
+    /// Gives an arc another time, and hands the one before back. NoArc exactly where the number is
+    /// not from 1 to the number of arcs. It takes no memory.
     pub fn replace(&mut self, arc: ArcId, time: Histogram) -> Result<Histogram, NoArc>
         requires total { total time ≡ self.old.scale }
         ensures old { IfOk result (λ old. option_map (λ arc. arc.time) (arc_at self.old arc) ≡ Some old) }
