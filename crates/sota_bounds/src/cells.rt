@@ -8,6 +8,7 @@ ghost use Rattle.sota_network.specs.Grid.{BUDGET_LIMIT};
 ghost use Rattle.sota_network.specs.Region.{need_between, broad_at};
 ghost use Rattle.sota_bounds.specs.Cells.{need_by, pairs_by, table_by, broad_by};
 
+use sota_hist::laws::times_rise;
 use sota_network::{Arc, Network};
 use sota_units::{NoMemory, NodeId, Tick};
 use std::alloc::Global;
@@ -109,6 +110,7 @@ fn broad_at(arc: &Arc, pairs: u64, budget: u32) -> u64
     ensures value { result ≡ broad_at budget pairs arc.now }
     ensures within { result ≤ 2 * (BUDGET_LIMIT + 1) }
 {
+    times_rise();
     let within = arc.time.within(Tick(budget));
     if pairs == 0 || within.len() <= NARROW {
         return 0;

@@ -3,7 +3,7 @@ use Rattle.std.proofs.Common.{ℕ, zero, suc, ◌≡◌, ◌+◌, ◌-◌, ◌<�
 use Rattle.std.specs.List.{filter}
 use Rattle.std.specs.List.Sorted.{IsNonDecreasingBy, IsPartitionPoint}
 use Rattle.std.proofs.lemmas.List.Sums.{sum_by-cons}
-use Rattle.std.proofs.lemmas.Bool.{cases_eq, le-leb, lt-leb, le-ltb, eq-eqb, ne_eqb}
+use Rattle.std.proofs.lemmas.Bool.{cases_eq, cases_lt, le-leb, lt-leb, le-ltb, eq-eqb, ne_eqb}
 use Rattle.sota_hist.specs.Time.{RisesFrom, IsTime, total, ticks, within, before, mass_at, greatest_tick}
 use Rattle.sota_hist.proofs.Least.{Among}
 
@@ -117,6 +117,15 @@ length-le-total floor (p ∷ ps) r = omega (arith, length-le-total p.0 ps r.2, t
 
 -- what the reads of a histogram stand on
 pub ruleset readings = (some_from_total, length-le-total)
+
+-- the pairs within a limit rise as well
+pub rises_within : (floor t : ℕ) (ps : List (ℕ × ℕ)) → RisesFrom floor ps → RisesFrom floor (within t ps)
+rises_within floor t [] rises = tt
+rises_within floor t (p ∷ ps) rises =
+    ⊎_elim
+    (λ (late : t < p.0). rw (lt-leb p.0 t late) (rises_lower p.0 floor (within t ps) (omega (arith, rises.0)) (rises_within p.0 t ps rises.2)))
+    (λ (early : p.0 ≤ t). rw (le-leb p.0 t early) (rises.0, rises.1, rises_within p.0 t ps rises.2))
+    (cases_lt t p.0)
 
 -- the last pair has the greatest tick
 pub last_tick : (ps : List (ℕ × ℕ)) (d : ℕ × ℕ) → IsTime ps → 1 ≤ length ps → ((get_or ps (length ps - 1) d).0 ≡ greatest_tick ps) × (1 ≤ (get_or ps (length ps - 1) d).0)
