@@ -15,7 +15,7 @@ use Rattle.sota_script.specs.declared.fault.LineFault.{LineFault}
 use Rattle.sota_session.specs.Asks.{ask_fault, answer_of}
 use Rattle.sota_session.specs.declared.ask.Ask.{Ask}
 use Rattle.sota_session.specs.declared.session.EditFault.TheVariants as edits
-use Rattle.sota_app.specs.Replies.{reply_line, is_refusal}
+use Rattle.sota_app.specs.Replies.{reply_line, is_refusal, Replied}
 use Rattle.sota_app.specs.declared.reply.Reply.{Reply}
 use Rattle.sota_app.specs.declared.reply.Reply.TheVariants as replies
 use Rattle.sota_app.specs.declared.reply.Cause.{Cause}
@@ -109,6 +109,10 @@ some_refused said = list_any is_refusal said
 
 abbrev pub replies_status : List Reply → Status
 replies_status said = if some_refused said then SomeRefused else Done
+
+-- how the writing of replies ended: with their status where all were written
+abbrev pub AllReplied : List Reply → Status → SinkState → SinkState → Type 0
+AllReplied said result old new = Replied (replies_status said) result (replies_text said) old new
 
 -- ---- writing
 

@@ -1,6 +1,7 @@
 // Replies and their lines.
 ghost use Rattle.std.specs.Prelude.{◌≡◌, ◌++◌, IfOk, OnOk};
-ghost use Rattle.sota_app.specs.Replies.{arc_text, count_text, answer_line, edited_line, refused_line, line_cause, time_cause, edit_cause, ask_cause, cause_word, cause_count, reply_line, is_refusal, Replied};
+ghost use Rattle.sota_app.specs.Replies.{arc_text, count_text, answer_line, edited_line, refused_line, line_cause, time_cause};
+ghost use Rattle.sota_app.specs.Replies.{edit_cause, ask_cause, cause_word, cause_count, reply_line, is_refusal, Replied};
 
 use crate::status::Status;
 use sota_edge::{Sink, SinkError, put_all};

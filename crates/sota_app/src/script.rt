@@ -1,10 +1,11 @@
 // Scripts: a line is read, done and replied to before the next.
-ghost use Rattle.std.specs.Prelude.{◌≡◌, ◌≢◌, ◌≤◌, ◌<◌, ◌^◌, ◌∷◌, [], length, IfOk, OnOk, Option, Some, option_to_list};
+ghost use Rattle.std.specs.Prelude.{◌≡◌, ◌≢◌, ◌≤◌, ◌<◌, ◌^◌, ◌∷◌, [], length};
+ghost use Rattle.std.specs.Prelude.{IfOk, OnOk, Option, Some, option_to_list};
 ghost use Rattle.sota_hist.specs.Time.{total};
 ghost use Rattle.sota_script.specs.Few.{HasFewPairs};
 ghost use Rattle.sota_script.specs.declared.command.Command.{Command as Said};
-ghost use Rattle.sota_app.specs.Replies.{Replied};
-ghost use Rattle.sota_app.specs.Script.{asked, command_step, saying_of, step, script_sayings, one_ask, network_after, replies_to, replies_text, replies_status, status_of, ToldEnd};
+ghost use Rattle.sota_app.specs.Script.{asked, command_step, saying_of, step, script_sayings, one_ask};
+ghost use Rattle.sota_app.specs.Script.{network_after, replies_to, status_of, ToldEnd, AllReplied};
 
 use crate::reply::{Cause, Reply};
 use crate::status::Status;
@@ -45,7 +46,8 @@ fn reply_to_edit(
     pairs: &Pairs,
 ) -> Result<Reply, NoMemory>
     requires { length pairs.now < 2 ^ 32 }
-    ensures { IfOk result (λ reply. record { reply = Some reply; next = session.new } ≡ command_step session.old number (Said.Edit arc pairs.now)) }
+    ensures { IfOk result (λ reply. record { reply = Some reply; next = session.new }
+        ≡ command_step session.old number (Said.Edit arc pairs.now)) }
 {
     let scale = session.network().scale();
     let time = match Histogram::build(alloc, scale, pairs.as_slice()) {
@@ -79,7 +81,8 @@ fn reply_to_ask<M: Ledger, P: Ledger>(
     products: &mut Steps<M>,
     pushes: &mut Steps<P>,
 ) -> Result<Reply, NoMemory>
-    ensures { IfOk result (λ reply. record { reply = Some reply; next = session.new } ≡ command_step session.old number (Said.Ask ask)) }
+    ensures { IfOk result (λ reply. record { reply = Some reply; next = session.new }
+        ≡ command_step session.old number (Said.Ask ask)) }
 {
     match session.ask(asked(ask), products, pushes) {
         Ok(answer) => Ok(Reply::Answered(asked(ask), answer)),
@@ -98,7 +101,8 @@ fn reply_to_command<M: Ledger, P: Ledger>(
     pushes: &mut Steps<P>,
 ) -> Result<Reply, NoMemory>
     requires { HasFewPairs command }
-    ensures { IfOk result (λ reply. record { reply = Some reply; next = session.new } ≡ command_step session.old number command) }
+    ensures { IfOk result (λ reply. record { reply = Some reply; next = session.new }
+        ≡ command_step session.old number command) }
 {
     match command {
         Command::Edit { arc, pairs } => reply_to_edit(alloc, session, number, arc, &pairs),
@@ -116,7 +120,8 @@ fn reply_to_line<M: Ledger, P: Ledger>(
     pushes: &mut Steps<P>,
 ) -> Result<Option<Reply>, NoMemory>
     requires { length line.now < 2 ^ 32 }
-    ensures { IfOk result (λ reply. record { reply = reply; next = session.new } ≡ step session.old (saying_of (number, line.now))) }
+    ensures { IfOk result (λ reply. record { reply = reply; next = session.new }
+        ≡ step session.old (saying_of (number, line.now))) }
 {
     match read_line(alloc, line) {
         Ok(None) => Ok(None),
@@ -162,8 +167,10 @@ fn play_line<O: Sink, M: Ledger, P: Ledger>(
     pushes: &mut Steps<P>,
 ) -> Result<bool, End>
     requires { length line.now < 2 ^ 32 }
-    ensures told { ToldEnd result (option_to_list (step session.old (saying_of (number, line.now))).reply) (O.state out.old) (O.state out.new) }
-    ensures next { OnOk result (session.new ≡ (step session.old (saying_of (number, line.now))).next) }
+    ensures told { let reply = (step session.old (saying_of (number, line.now))).reply in
+        ToldEnd result (option_to_list reply) (O.state out.old) (O.state out.new) }
+    ensures next { OnOk result
+        (session.new ≡ (step session.old (saying_of (number, line.now))).next) }
 {
     let reply = reply_to_line(alloc, session, number, line, products, pushes)?;
     write_reply(alloc, reply, out)
@@ -179,7 +186,8 @@ fn play_lines<O: Sink, M: Ledger, P: Ledger>(
     pushes: &mut Steps<P>,
 ) -> Result<bool, End>
     requires { length script.now ≤ 67108864 }
-    ensures told { ToldEnd result (replies_to session.old (script_sayings script.now)) (O.state out.old) (O.state out.new) }
+    ensures told { ToldEnd result (replies_to session.old (script_sayings script.now))
+        (O.state out.old) (O.state out.new) }
     ensures next { OnOk result (session.new ≡ network_after session.old (script_sayings script.now)) }
 {
     let mut refused = false;
@@ -199,7 +207,8 @@ fn play_ask<O: Sink, M: Ledger, P: Ledger>(
     products: &mut Steps<M>,
     pushes: &mut Steps<P>,
 ) -> Result<bool, End>
-    ensures told { ToldEnd result (replies_to session.old (one_ask ask)) (O.state out.old) (O.state out.new) }
+    ensures told { ToldEnd result (replies_to session.old (one_ask ask))
+        (O.state out.old) (O.state out.new) }
     ensures next { OnOk result (session.new ≡ session.old) }
 {
     let command = Command::Ask(ask);
@@ -232,8 +241,10 @@ pub fn run_script<O: Sink, M: Ledger, P: Ledger>(
     pushes: &mut Steps<P>,
 ) -> Status
     requires { length script.now ≤ 67108864 }
-    ensures replied { let replies = replies_to session.old (script_sayings script.now) in Replied (replies_status replies) result (replies_text replies) (O.state out.old) (O.state out.new) }
-    ensures network { result ≢ Status.WriteFault → result ≢ Status.NoMemory → session.new ≡ network_after session.old (script_sayings script.now) }
+    ensures replied { AllReplied (replies_to session.old (script_sayings script.now)) result
+        (O.state out.old) (O.state out.new) }
+    ensures network { result ≢ Status.WriteFault → result ≢ Status.NoMemory
+        → session.new ≡ network_after session.old (script_sayings script.now) }
 {
     status_of(play_lines(alloc, session, script, out, products, pushes))
 }
@@ -248,8 +259,10 @@ pub fn run_ask<O: Sink, M: Ledger, P: Ledger>(
     products: &mut Steps<M>,
     pushes: &mut Steps<P>,
 ) -> Status
-    ensures replied { let replies = replies_to session.old (one_ask ask) in Replied (replies_status replies) result (replies_text replies) (O.state out.old) (O.state out.new) }
-    ensures network { result ≢ Status.WriteFault → result ≢ Status.NoMemory → session.new ≡ session.old }
+    ensures replied { AllReplied (replies_to session.old (one_ask ask)) result
+        (O.state out.old) (O.state out.new) }
+    ensures network { result ≢ Status.WriteFault → result ≢ Status.NoMemory
+        → session.new ≡ session.old }
 {
     status_of(play_ask(alloc, session, ask, out, products, pushes))
 }

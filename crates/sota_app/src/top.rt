@@ -5,7 +5,7 @@ ghost use Rattle.sota_edge.specs.Desk.{Files};
 ghost use Rattle.sota_edge.specs.Sink.{WrotePrefix};
 ghost use Rattle.sota_app.specs.Words.{command_of};
 ghost use Rattle.sota_app.specs.Replies.{Replied};
-ghost use Rattle.sota_app.specs.Script.{replies_to, replies_text, replies_status};
+ghost use Rattle.sota_app.specs.Script.{replies_to, AllReplied};
 ghost use Rattle.sota_app.specs.Refusals.{refusal_line};
 ghost use Rattle.sota_app.specs.Outcome.{outcome, outcome_of};
 ghost use Rattle.sota_app.specs.Inputs.{EndReplied, AreWithin, lines_sayings};
@@ -59,8 +59,7 @@ fn run_lines<O: Sink, M: Ledger, P: Ledger>(
     pushes: &mut Steps<P>,
 ) -> Status
     requires { AreWithin lines.now }
-    ensures { let replies = replies_to session.old (lines_sayings lines.now) in
-        Replied (replies_status replies) result (replies_text replies)
+    ensures { AllReplied (replies_to session.old (lines_sayings lines.now)) result
         (O.state out.old) (O.state out.new) }
 {
     match lines {
@@ -81,8 +80,7 @@ fn run_task<O: Sink, M: Ledger, P: Ledger>(
     requires name { blank.name ≡ M.name }
     requires parts { blank.parts ≡ M.parts }
     requires some { 0 < blank.parts }
-    ensures { let replies = replies_to task.network (lines_sayings task.lines) in
-        Replied (replies_status replies) result (replies_text replies)
+    ensures { AllReplied (replies_to task.network (lines_sayings task.lines)) result
         (O.state out.old) (O.state out.new) }
 {
     let mut products = Steps::<M>::new(blank);
