@@ -2,15 +2,11 @@
 use Rattle.std.specs.Prelude.{ℕ, List, [], ◌∷◌, Option, Some, None, if◌then◌else◌, codes}
 use Rattle.std.specs.Str.{bytes_eq}
 use Rattle.sota_text.specs.Text.{number_of}
+use Rattle.sota_text.specs.Words.{three, ◌>>=◌}
 use Rattle.sota_script.specs.declared.command.Ask3.{Ask3}
 use Rattle.sota_app.specs.Said.{AskSaid, RunSaid}
 use Rattle.sota_app.specs.declared.words.Command.{Command}
 use Rattle.sota_app.specs.declared.words.Command.TheVariants as commands
-
-infixl 10 ◌>>=◌
-abbrev pub ◌>>=◌ : {A B : Type 0} → Option A → (A → Option B) → Option B
-(Some x) >>= f = f x
-None >>= f = None
 
 -- 'O D T'
 abbrev pub ask_of : List ℕ → List ℕ → List ℕ → Option Ask3
@@ -20,14 +16,10 @@ ask_of origin dest budget = do
   t ← number_of budget
   Some (record { origin = o; dest = d; budget = t })
 
--- so many words and no more
+-- five words and no more
 abbrev pub five : List (List ℕ) → Option (List ℕ × List ℕ × List ℕ × List ℕ × List ℕ)
 five (a ∷ b ∷ c ∷ d ∷ e ∷ []) = Some (a, b, c, d, e)
 five _ = None
-
-abbrev pub three : List (List ℕ) → Option (List ℕ × List ℕ × List ℕ)
-three (a ∷ b ∷ c ∷ []) = Some (a, b, c)
-three _ = None
 
 -- 'GRAPH HISTS O D T' behind 'ask'
 abbrev pub ask_said : List (List ℕ) → Option AskSaid

@@ -1,7 +1,8 @@
 // The words of the command line.
 ghost use Rattle.std.specs.Prelude.{◌≡◌, map, string_bytes, option_map};
 ghost use Rattle.sota_app.specs.Words.{ask_of, ask_said, run_said};
-ghost use Rattle.sota_app.specs.Words.{ask_command, run_command, command_of, five, three};
+ghost use Rattle.sota_app.specs.Words.{ask_command, run_command, command_of, five};
+ghost use Rattle.sota_text.specs.Words.{three};
 
 use sota_script::Ask3;
 use sota_text::read_u32;

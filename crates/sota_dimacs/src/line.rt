@@ -1,11 +1,11 @@
 // What a line says by itself.
-ghost use Rattle.std.specs.Prelude.{◌≡◌, map, option_map};
+ghost use Rattle.std.specs.Prelude.{◌≡◌, map};
 ghost use Rattle.sota_text.specs.Text.{fields_of};
 ghost use Rattle.sota_text.specs.Spans.{bytes_of, AreWithin};
-ghost use Rattle.sota_dimacs.specs.Lines.{begins_comment, three, problem_of, arc_of, kind_of};
+ghost use Rattle.sota_dimacs.specs.Lines.{begins_comment, problem_of, arc_of, kind_of};
 
 use crate::RawArc;
-use sota_text::{Fields, read_u32};
+use sota_text::{Fields, read_u32, three_fields};
 use sota_units::NodeId;
 
 /// What a problem line tells.
@@ -53,27 +53,6 @@ fn begins_comment(first: &[u8]) -> bool
     ensures { result ≡ begins_comment first.now }
 {
     !first.is_empty() && first[0] == b'c'
-}
-
-/// The fields that are left, if they are three.
-fn three_fields<'a>(
-    line: &'a [u8],
-    mut fields: Fields<'_>,
-) -> Option<(&'a [u8], &'a [u8], &'a [u8])>
-    requires { AreWithin line.now fields }
-    ensures { option_map (λ words. (words.0.now, words.1.now, words.2.now)) result ≡ three (map (bytes_of line.now) fields.entry) }
-{
-    let first = fields.next()?;
-    let second = fields.next()?;
-    let third = fields.next()?;
-    if fields.next().is_some() {
-        return None;
-    }
-    Some((
-        &line[first.from..first.to],
-        &line[second.from..second.to],
-        &line[third.from..third.to],
-    ))
 }
 
 /// The problem that the fields behind a `p` tell.

@@ -6,7 +6,7 @@ use Rattle.std.specs.Str.{bytes_eq}
 use Rattle.csv.specs.Reading.{records, default_config}
 use Rattle.sota_units.specs.Rounding.{SCALE_LIMIT}
 use Rattle.sota_text.specs.Text.{number_of}
-use Rattle.sota_dimacs.specs.Lines.{three, ◌>>=◌}
+use Rattle.sota_text.specs.Words.{three, ◌>>=◌}
 use Rattle.sota_histcsv.specs.declared.entry.Entry.{Entry}
 use Rattle.sota_histcsv.specs.declared.fault.HistFileFault.{HistFileFault}
 use Rattle.sota_histcsv.specs.declared.fault.HistFileFault.TheVariants.{Fields, Number, NoArc, ZeroTick, RepeatedTick}

@@ -1,7 +1,7 @@
 // The records of a text, one at a time.
 ghost use Rattle.std.specs.Prelude.{◌≡◌, ℕ, List, false, option_map};
 ghost use Rattle.csv.specs.Records.{fields_of};
-ghost use Rattle.sota_dimacs.specs.Lines.{three};
+ghost use Rattle.sota_text.specs.Words.{three};
 ghost use Rattle.sota_histcsv.specs.Records.{is_marked, text_records};
 ghost use Rattle.sota_histcsv.specs.Left.{Leaves, TakesRecord};
 

@@ -3,6 +3,7 @@ use Rattle.std.specs.Prelude.{ℕ, ◌≡◌, List, [], ◌∷◌, ◌++◌, Boo
 use Rattle.std.specs.List.{before_first, after_first}
 use Rattle.std.specs.Str.{bytes_eq}
 use Rattle.sota_text.specs.Text.{fields_of, number_of}
+use Rattle.sota_text.specs.Words.{three}
 use Rattle.sota_script.specs.declared.command.Ask3.{Ask3}
 use Rattle.sota_script.specs.declared.command.Command.{Command}
 use Rattle.sota_script.specs.declared.command.Command.TheVariants as commands
@@ -55,11 +56,6 @@ abbrev pub pairs_of : List (List ℕ) → Option (List (ℕ × ℕ))
 pairs_of fields = all_there (map pair_of fields)
 
 -- ---- commands, by the fields behind their words
-
--- three fields and no more
-abbrev pub three : List (List ℕ) → Option (List ℕ × List ℕ × List ℕ)
-three (a ∷ b ∷ c ∷ []) = Some (a, b, c)
-three _ = None
 
 -- 'O D T' behind 'ask'
 abbrev pub ask_said : List (List ℕ) → Result Ask3 LineFault

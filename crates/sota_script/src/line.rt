@@ -1,14 +1,14 @@
 // Reading a line.
-ghost use Rattle.std.specs.Prelude.{◌≡◌, ◌<◌, ◌^◌, ◌∷◌, map, length, option_map, IfOk, IfSome, Option};
+ghost use Rattle.std.specs.Prelude.{◌≡◌, ◌<◌, ◌^◌, ◌∷◌, map, length, IfOk, IfSome, Option};
 ghost use Rattle.sota_text.specs.Spans.{bytes_of, AreWithin, IsWithin};
-ghost use Rattle.sota_script.specs.Lines.{line_said, begins_comment, three, edit_said, ask_said, pairs_of, pair_of, is_colon, or_fault};
+ghost use Rattle.sota_script.specs.Lines.{line_said, begins_comment, edit_said, ask_said, pairs_of, pair_of, is_colon, or_fault};
 ghost use Rattle.std.specs.List.{position};
 ghost use Rattle.sota_script.specs.Few.{HasFewPairs};
 ghost use Rattle.sota_script.specs.Answers.{ReadsLine};
 ghost use Rattle.sota_script.specs.declared.fault.LineFault.TheVariants.{Number};
 
 use crate::{Ask3, Command, LineFault, Pairs};
-use sota_text::{Fields, Span, read_u32};
+use sota_text::{Fields, Span, read_u32, three_fields};
 use sota_units::{ArcId, Mass, Tick};
 use std::alloc::Global;
 
@@ -107,25 +107,4 @@ fn read_ask(line: &[u8], fields: Fields<'_>) -> Result<Ask3, LineFault>
         dest: read_u32(dest).ok_or(LineFault::Number)?,
         budget: read_u32(budget).ok_or(LineFault::Number)?,
     })
-}
-
-/// The fields that are left, if they are three.
-fn three_fields<'a>(
-    line: &'a [u8],
-    mut fields: Fields<'_>,
-) -> Option<(&'a [u8], &'a [u8], &'a [u8])>
-    requires { AreWithin line.now fields }
-    ensures { option_map (λ words. (words.0.now, words.1.now, words.2.now)) result ≡ three (map (bytes_of line.now) fields.entry) }
-{
-    let first = fields.next()?;
-    let second = fields.next()?;
-    let third = fields.next()?;
-    if fields.next().is_some() {
-        return None;
-    }
-    Some((
-        &line[first.from..first.to],
-        &line[second.from..second.to],
-        &line[third.from..third.to],
-    ))
 }

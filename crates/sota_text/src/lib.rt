@@ -8,9 +8,11 @@ mod span;
 #[cfg(test)]
 mod tests;
 mod text_out;
+mod three;
 
 pub use fields::Fields;
 pub use lines::Lines;
 pub use number::read_u32;
 pub use span::{Line, Span};
 pub use text_out::TextOut;
+pub use three::three_fields;

@@ -1,6 +1,6 @@
 use Rattle.std.proofs.Common.{◌≡◌, ℕ, zero, suc, ◌<◌, List, [], ◌∷◌, length, Some, None, refl, sym, ◌∙◌, arith}
 use Rattle.csv.specs.Records.{field_at, fields_of}
-use Rattle.sota_dimacs.specs.Lines.{three}
+use Rattle.sota_text.specs.Words.{three}
 use Rattle.sota_histcsv.proofs.records.three_fields.Goals as goal
 
 three_at : (fields : List (List ℕ)) (a b c : List ℕ) → length fields ≡ 3 → Some a ≡ field_at fields 0 → Some b ≡ field_at fields 1 → Some c ≡ field_at fields 2 → Some (a, b, c) ≡ three fields
