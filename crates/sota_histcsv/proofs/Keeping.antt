@@ -1,11 +1,16 @@
 -- One more entry.
-use Rattle.std.proofs.Common.{◌≡◌, ℕ, ◌+◌, ◌≤◌, ◌||◌, not, Bool, true, false, cond, List, [], ◌∷◌, ◌++◌, Some, None, refl, sym, ◌∙◌, arith}
-use Rattle.std.specs.List.{list_any, count_by}
-use Rattle.std.proofs.lemmas.List.Elements.{All-push}
+use Rattle.std.proofs.Common.{◌≡◌, ℕ, ◌+◌, ◌<◌, ◌≤◌, ◌||◌, Bool, true, false, cond, List, [], ◌∷◌, ◌++◌, Option, Some, None, refl, sym, ◌∙◌, subst, arith, append_assoc, append-nil, option_to_list, length, length-append, IfSome}
+use Rattle.std.specs.List.{All, list_any, count_by}
+use Rattle.std.specs.Option.{option_or}
+use Rattle.std.proofs.lemmas.List.Elements.{All-nil, All-head, All-tail, All-push}
+use Rattle.std.proofs.lemmas.List.Quantifiers.{all_pairs_push}
 use Rattle.std.proofs.lemmas.List.Sums.{sum_by-cons}
 use Rattle.sota_histcsv.specs.declared.entry.Entry.{Entry}
 use Rattle.sota_histcsv.specs.declared.fault.HistFileFault.{HistFileFault}
-use Rattle.sota_histcsv.specs.Kept.{IsKept, is_at, AreKept}
+use Rattle.sota_histcsv.specs.declared.fault.HistFileFault.TheVariants.{RepeatedTick}
+use Rattle.sota_histcsv.specs.Records.{same_place}
+use Rattle.sota_histcsv.specs.Repeats.{first_repeat}
+use Rattle.sota_histcsv.specs.Kept.{IsKept, is_at, AreKept, NumbersRise}
 
 pub count-cons : (arc tick : ℕ) (entry : Entry) (entries : List Entry) → count_by (is_at arc tick) (entry ∷ entries) ≡ cond (is_at arc tick entry) 1 0 + count_by (is_at arc tick) entries
 count-cons arc tick entry entries = sum_by-cons (λ (other : Entry). cond (is_at arc tick other) 1 0) entry entries
@@ -40,10 +45,36 @@ kept_push entries entry kept good new = record {
       ] refl;
 }
 
-pub fault_some : (added held any : Bool) (fault : HistFileFault) → added ≡ not held → added ≡ false → held ≡ any → cond any (Some fault) None ≡ Some fault
-fault_some added true any fault e f h = rw (← h) refl
-fault_some added false any fault e f h = cc
+-- entries none of which repeats another
+not_any : (any : Bool) (fault : HistFileFault) (more : Option HistFileFault) → option_or (cond any (Some fault) None) more ≡ None → (any ≡ false) × (more ≡ None)
+not_any true fault more e = cc
+not_any false fault more e = (refl, e)
 
-pub none_held : (added held any : Bool) → added ≡ not held → added ≡ true → held ≡ any → any ≡ false
-none_held added true any e f h = cc
-none_held added false any e f h = sym h
+pub kept_all : (before entries : List Entry) → AreKept before → All IsKept entries → first_repeat before entries ≡ None → AreKept (before ++ entries)
+kept_all before [] kept each none = rw (append-nil before) kept
+kept_all before (entry ∷ entries) kept each none =
+    let fresh = not_any (list_any (same_place entry) before) (RepeatedTick entry.number) (first_repeat (before ++ entry ∷ []) entries) none in
+    let more : AreKept (before ++ entry ∷ []) = kept_push before entry kept (All-head IsKept entry entries each) fresh.0 in
+    subst AreKept (append_assoc before (entry ∷ []) entries) (kept_all (before ++ entry ∷ []) entries more (All-tail IsKept entry entries each) fresh.1)
+
+pub none_kept : AreKept []
+none_kept = record { each = All-nil IsKept; once = λ arc tick. omega arith }
+
+-- ---- the entries behind one record more
+
+pub record Grown (entries : List Entry) (number : ℕ) : Type 0 where
+  pub few : length entries < number
+  pub each : All IsKept entries
+  pub rise : NumbersRise entries
+  pub below : All (λ (entry : Entry). entry.number < number) entries
+
+pub grown : (entries : List Entry) (o : Option Entry) (number : ℕ) → length entries < number → All IsKept entries → NumbersRise entries → All (λ (entry : Entry). entry.number < number) entries
+    → IfSome o (λ (entry : Entry). IsKept entry × (entry.number ≡ number)) → Grown (entries ++ option_to_list o) (number + 1)
+grown entries None number few each rise below next =
+    subst (λ (entries : List Entry). Grown entries (number + 1)) (sym (append-nil entries)) (record { few = omega arith; each = each; rise = rise; below = λ k d under. omega (arith, below k d under) })
+grown entries (Some entry) number few each rise below next = record {
+  few = omega (arith, length-append entries (entry ∷ []));
+  each = All-push IsKept entries entry each next.0;
+  rise = all_pairs_push (λ (one other : Entry). one.number < other.number) entries entry rise (λ k d under. omega (arith, below k d under, next.1));
+  below = All-push (λ (entry : Entry). entry.number < number + 1) entries entry (λ k d under. omega (arith, below k d under)) (omega (arith, next.1));
+}

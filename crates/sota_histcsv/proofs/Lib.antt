@@ -4,3 +4,4 @@ pub mod Timing
 pub mod Whole
 pub mod Telling
 pub mod Grouping
+pub mod Repeating

@@ -1,5 +1,5 @@
 -- What the records that are left make of what was told so far.
-use Rattle.std.proofs.Common.{◌≡◌, ℕ, ◌+◌, ◌<◌, ◌≤◌, true, List, [], ◌∷◌, ◌++◌, length, Option, Some, None, Result, Ok, Err, option_to_list, refl, sym, ◌∙◌, ap, arith, append_assoc, append-nil, Bor}
+use Rattle.std.proofs.Common.{◌≡◌, ℕ, ◌+◌, ◌≤◌, true, List, [], ◌∷◌, ◌++◌, length, Option, Some, None, Result, Ok, Err, option_to_list, refl, sym, ◌∙◌, ap, arith, append_assoc, append-nil, Bor}
 use Rattle.std.specs.List.{cons_option, enumerate_from}
 use Rattle.std.specs.Option.{option_or}
 use Rattle.std.proofs.lemmas.List.Elements.{filter_map-append}
@@ -7,7 +7,8 @@ use Rattle.csv.specs.declared.reader.Reader.{Reader}
 use Rattle.sota_histcsv.specs.declared.entry.Entry.{Entry}
 use Rattle.sota_histcsv.specs.declared.fault.HistFileFault.{HistFileFault}
 use Rattle.sota_histcsv.specs.declared.fault.HistFileFault.TheVariants.{Header}
-use Rattle.sota_histcsv.specs.Records.{Row, numbered_rows, header_scale, entry_of, kept, entries_in, record_fault, first_fault}
+use Rattle.sota_histcsv.specs.Records.{Row, numbered_rows, header_scale, entry_of, kept, entries_in, own_fault, repeat_fault, record_fault, first_fault}
+use Rattle.sota_histcsv.specs.Repeats.{first_repeat}
 use Rattle.sota_histcsv.specs.Histograms.{Told, or_fault, told_by, told}
 use Rattle.sota_units.specs.declared.no_memory.NoMemory.{NoMemory}
 use Rattle.sota_histcsv.specs.Left.{Leaves, TakesRecord}
@@ -39,12 +40,40 @@ rest_is arcs scale before (row ∷ rows) =
     ∙ ap (λ entries. rest_of arcs scale entries rows) (entries_push before row) in
     fault_first (record_fault arcs (entries_in before) row) (first_fault arcs (before ++ row ∷ []) rows) _ _ rest
 
+-- ---- repeats are told from the entries that were kept
+
+none_or : (fault : Option HistFileFault) → option_or fault None ≡ fault
+none_or (Some fault) = refl
+none_or None = refl
+
+or_or : (a b c : Option HistFileFault) → option_or a (option_or b c) ≡ option_or (option_or a b) c
+or_or (Some fault) b c = refl
+or_or None b c = refl
+
+first_push : (before entries : List Entry) (entry : Entry) → first_repeat before (entries ++ entry ∷ []) ≡ option_or (first_repeat before entries) (repeat_fault (before ++ entries) (Some entry))
+first_push before [] entry =
+    none_or (repeat_fault before (Some entry)) ∙ ap (λ before. repeat_fault before (Some entry)) (sym (append-nil before))
+first_push before (first ∷ entries) entry =
+    ap (option_or (repeat_fault before (Some first))) (first_push (before ++ first ∷ []) entries entry)
+    ∙ ap (λ all. option_or (repeat_fault before (Some first)) (option_or (first_repeat (before ++ first ∷ []) entries) (repeat_fault all (Some entry)))) (append_assoc before (first ∷ []) entries)
+    ∙ or_or (repeat_fault before (Some first)) (first_repeat (before ++ first ∷ []) entries) (repeat_fault (before ++ first ∷ entries) (Some entry))
+
+fault_or : (a b : Option HistFileFault) (answer : Result Told HistFileFault) → or_fault a (or_fault b answer) ≡ or_fault (option_or a b) answer
+fault_or (Some fault) b answer = refl
+fault_or None b answer = refl
+
+repeat_more : (entries : List Entry) (o : Option Entry) (answer : Result Told HistFileFault) → or_fault (first_repeat [] entries) (or_fault (repeat_fault entries o) answer) ≡ or_fault (first_repeat [] (entries ++ option_to_list o)) answer
+repeat_more entries None answer = ap (λ entries. or_fault (first_repeat [] entries) answer) (sym (append-nil entries))
+repeat_more entries (Some entry) answer =
+    fault_or (first_repeat [] entries) (repeat_fault entries (Some entry)) answer
+    ∙ ap (λ fault. or_fault fault answer) (sym (first_push [] entries entry))
+
 -- ---- a reader goes through the records
 
 pub record Goes (arcs scale : ℕ) (all : List (List (List ℕ))) (reader : Reader (Bor (List ℕ))) (entries : List Entry) (number : ℕ) : Type 0 where
   pub left : List (List (List ℕ))
   pub leaves : Leaves reader left
-  pub rest : rest_of arcs scale entries (enumerate_from number left) ≡ told arcs all
+  pub rest : or_fault (first_repeat [] entries) (rest_of arcs scale entries (enumerate_from number left)) ≡ told arcs all
   pub few : length left + number ≤ length all
 
 pub no_header : (arcs : ℕ) (all : List (List (List ℕ))) → all ≡ [] → told arcs all ≡ Err Header
@@ -64,29 +93,30 @@ begun arcs scale (header ∷ rows) reader fields takes some = record {
 }
 
 pub ended : (arcs scale number : ℕ) (all : List (List (List ℕ))) (reader : Reader (Bor (List ℕ))) (entries : List Entry) (goes : Goes arcs scale all reader entries number)
-    → goes.left ≡ [] → told arcs all ≡ Ok (record { scale = scale; entries = entries })
-ended arcs scale number all reader entries goes none = sym goes.rest ∙ ap (λ left. rest_of arcs scale entries (enumerate_from number left)) none
+    → goes.left ≡ [] → or_fault (first_repeat [] entries) (Ok (record { scale = scale; entries = entries })) ≡ told arcs all
+ended arcs scale number all reader entries goes none =
+    ap (λ left. or_fault (first_repeat [] entries) (rest_of arcs scale entries (enumerate_from number left))) (sym none) ∙ goes.rest
 
 -- what one record more makes of it
 pub record GoesOn (arcs scale number : ℕ) (all : List (List (List ℕ))) (after : Reader (Bor (List ℕ))) (entries : List Entry) (fields : List (List ℕ)) : Type 0 where
-  pub fault : (why : HistFileFault) → record_fault arcs entries (number, fields) ≡ Some why → told arcs all ≡ Err why
-  pub more : record_fault arcs entries (number, fields) ≡ None → Goes arcs scale all after (entries ++ option_to_list (kept (entry_of (number, fields)))) (number + 1)
-  pub few : number < length all
+  pub fault : (why : HistFileFault) → own_fault arcs (number, fields) ≡ Some why → or_fault (first_repeat [] entries) (Err why) ≡ told arcs all
+  pub more : (o : Option Entry) → own_fault arcs (number, fields) ≡ None → o ≡ kept (entry_of (number, fields)) → Goes arcs scale all after (entries ++ option_to_list o) (number + 1)
 
 on_left : (arcs scale number : ℕ) (all left : List (List (List ℕ))) (after : Reader (Bor (List ℕ))) (entries : List Entry) (fields : List (List ℕ)) → TakesRecord {E = NoMemory} (Ok true) left after fields
-    → rest_of arcs scale entries (enumerate_from number left) ≡ told arcs all → length left + number ≤ length all → GoesOn arcs scale number all after entries fields
+    → or_fault (first_repeat [] entries) (rest_of arcs scale entries (enumerate_from number left)) ≡ told arcs all → length left + number ≤ length all → GoesOn arcs scale number all after entries fields
 on_left arcs scale number all [] after entries fields takes rest few = absurd takes
 on_left arcs scale number all (first ∷ left) after entries fields takes rest few =
-    let here : or_fault (record_fault arcs entries (number, fields)) (rest_of arcs scale (entries ++ option_to_list (kept (entry_of (number, fields)))) (enumerate_from (number + 1) left)) ≡ told arcs all = rw (takes.0) rest in
+    let next = λ (o : Option Entry). rest_of arcs scale (entries ++ option_to_list o) (enumerate_from (number + 1) left) in
+    let said = λ (own : Option HistFileFault) (o : Option Entry). or_fault (first_repeat [] entries) (or_fault (option_or own (repeat_fault entries o)) (next o)) in
+    let here : said (own_fault arcs (number, fields)) (kept (entry_of (number, fields))) ≡ told arcs all = rw (takes.0) rest in
     record {
-      fault = λ why e. sym here ∙ ap (λ fault. or_fault fault (rest_of arcs scale (entries ++ option_to_list (kept (entry_of (number, fields)))) (enumerate_from (number + 1) left))) e;
-      more = λ none. record {
+      fault = λ why e. ap (λ own. said own (kept (entry_of (number, fields)))) (sym e) ∙ here;
+      more = λ o none is. record {
         left = left;
         leaves = takes.1;
-        rest = ap (λ fault. or_fault fault (rest_of arcs scale (entries ++ option_to_list (kept (entry_of (number, fields)))) (enumerate_from (number + 1) left))) (sym none) ∙ here;
+        rest = sym (repeat_more entries o (next o)) ∙ ap (said None) is ∙ ap (λ own. said own (kept (entry_of (number, fields)))) (sym none) ∙ here;
         few = omega arith;
       };
-      few = omega arith;
     }
 
 pub goes_on : (arcs scale number : ℕ) (all : List (List (List ℕ))) (reader after : Reader (Bor (List ℕ))) (entries : List Entry) (fields : List (List ℕ)) (goes : Goes arcs scale all reader entries number)

@@ -1,9 +1,7 @@
 -- What holds of the entries that were kept so far.
-use Rattle.std.specs.Prelude.{ℕ, ◌≡◌, ◌≤◌, ◌==◌, ◌&&◌, Bool, List}
-use Rattle.std.specs.List.{All, count_by, filter, list_any}
+use Rattle.std.specs.Prelude.{ℕ, ◌≡◌, ◌<◌, ◌≤◌, ◌==◌, ◌&&◌, Bool, List}
+use Rattle.std.specs.List.{All, AllPairs, count_by, filter}
 use Rattle.std.specs.List.Sorted.{IsNonDecreasingBy}
-use Rattle.std.specs.Ordering.{nat_cmp, ordering_then}
-use Rattle.std.specs.BTreeSet.{BTreeSet, contains}
 use Rattle.sota_histcsv.specs.declared.entry.Entry.{Entry}
 use Rattle.sota_histcsv.specs.declared.table.Table.{Table}
 use Rattle.sota_histcsv.specs.Histograms.{Told}
@@ -26,9 +24,9 @@ pub record AreKept (entries : List Entry) : Type 0 where
   pub each : All IsKept entries
   pub once : (arc tick : ℕ) → count_by (is_at arc tick) entries ≤ 1
 
--- the set has the places of the entries
-pub record ArePlaces (places : BTreeSet (ℕ × ℕ)) (entries : List Entry) : Type 0 where
-  pub at : (place : ℕ × ℕ) → contains (λ x y. ordering_then (nat_cmp x.0 y.0) (nat_cmp x.1 y.1)) places place ≡ list_any (is_at place.0 place.1) entries
+-- entries stand in the order of their records
+abbrev pub NumbersRise : List Entry → Type 0
+NumbersRise entries = AllPairs (λ one other. one.number < other.number) entries
 
 -- entries in the order of their arcs, those of each arc being these
 pub record IsByArc (entries sorted : List Entry) : Type 0 where

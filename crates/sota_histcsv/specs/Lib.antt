@@ -4,3 +4,4 @@ pub mod Records
 pub mod Histograms
 pub mod Left
 pub mod Kept
+pub mod Repeats

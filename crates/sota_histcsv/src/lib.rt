@@ -6,6 +6,7 @@ mod entry;
 mod fault;
 mod histograms;
 mod records;
+mod repeats;
 mod table;
 mod times;
 

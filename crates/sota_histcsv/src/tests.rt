@@ -55,6 +55,14 @@ fn first_faults(rt: HostRuntime) -> Result<(), Fail> {
             HistFileFault::RepeatedTick(2),
         ),
         (
+            b"arc,tick,mass/4\n3,5,1\n1,2,1\n3,5,1\n1,2,3",
+            HistFileFault::RepeatedTick(3),
+        ),
+        (
+            b"arc,tick,mass/4\n1,2,1\nx\n1,2,3",
+            HistFileFault::Fields(2),
+        ),
+        (
             b"\xEF\xBB\xBF\xEF\xBB\xBFarc,tick,mass/4",
             HistFileFault::Header,
         ),

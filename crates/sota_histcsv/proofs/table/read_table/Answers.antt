@@ -1,21 +1,12 @@
-use Rattle.std.proofs.Common.{◌+◌, ◌<◌, ◌≤◌, ℕ, List, [], ◌∷◌, ◌++◌, Option, None, Some, option_to_list, length, length-append, refl, arith}
-use Rattle.std.proofs.lemmas.Result.{err_from_is_err_and}
+use Rattle.std.proofs.Common.{◌+◌, ◌≤◌, length, subst, arith}
 use Rattle.std.proofs.lemmas.List.Elements.{All-nil}
-use Rattle.sota_histcsv.specs.declared.entry.Entry.{Entry}
-use Rattle.sota_histcsv.specs.declared.table.Table.{Table}
 use Rattle.sota_histcsv.specs.Records.{text_records}
-use Rattle.sota_histcsv.specs.Kept.{IsKept, AreKept}
+use Rattle.sota_histcsv.specs.Kept.{told_in, IsKept}
+use Rattle.sota_histcsv.specs.Answers.{MeansBy}
 use Rattle.sota_histcsv.proofs.Reading.{few}
+use Rattle.sota_histcsv.proofs.Keeping.{grown}
 use Rattle.sota_histcsv.proofs.Telling.{no_header, no_scale, begun, ended, goes_on}
-use Rattle.sota_histcsv.proofs.Grouping.{err_means}
 use Rattle.sota_histcsv.proofs.table.read_table.Goals as goal
-
-none_kept : AreKept []
-none_kept = record { each = All-nil IsKept; once = λ arc tick. omega arith }
-
-one_more : (entries : List Entry) (o : Option Entry) (number : ℕ) → length entries < number → length (entries ++ option_to_list o) < number + 1
-one_more entries None number few = omega (arith, length-append entries [])
-one_more entries (Some entry) number few = omega (arith, length-append entries (entry ∷ []))
 
 pub returns-then-not-branch-clause-told : goal.returns-then-not-branch-clause-told
 returns-then-not-branch-clause-told c =
@@ -31,32 +22,39 @@ pub loop-number-init : goal.loop-number-init
 loop-number-init c =
     let takes = c.in_ok-next_record.ensures (text_records c.args.text.now) c.reader_of-reader.ensures in
     record {
-      goes = rw c.new.ensures.items (begun c.args.arcs c.in-Some.scale _ _ _ (rw c.if-not-branch.false at takes) c.in-Some.ensures);
-      few = rw c.new.ensures.items (omega arith);
-      kept = rw c.new.ensures.items none_kept;
-      places = rw c.new.ensures.items (record { at = λ place. rw c.new-2.ensures.empty refl });
+      goes = rw c.new-entries.ensures.items (begun c.args.arcs c.in-Some.scale _ _ _ (rw c.if-not-branch.false at takes) c.in-Some.ensures);
+      few = rw c.new-entries.ensures.items (omega arith);
+      each = rw c.new-entries.ensures.items (All-nil IsKept);
+      rise = rw c.new-entries.ensures.items (λ i j d less under. absurd (omega arith));
+      below = rw c.new-entries.ensures.items (λ k d under. absurd (omega arith));
     }
 
 pub returns-then-not-branch-2-clause-told : goal.returns-then-not-branch-2-clause-told
 returns-then-not-branch-2-clause-told c =
     let goes = c.loop-number.invariant.goes in
     let takes = c.in_ok-next_record-2.ensures goes.left goes.leaves in
-    ended _ _ _ _ _ _ goes (rw c.if-not-branch-2.true at takes)
+    subst (MeansBy told_in c.settled.result) (ended _ _ _ _ _ _ goes (rw c.if-not-branch-2.true at takes)) c.settled.ensures.told
 
-pub returns-in_err-add-clause-told : goal.returns-in_err-add-clause-told
-returns-in_err-add-clause-told c =
+pub returns-in-Err-clause-told : goal.returns-in-Err-clause-told
+returns-in-Err-clause-told c =
     let goes = c.loop-number.invariant.goes in
     let takes = c.in_ok-next_record-2.ensures goes.left goes.leaves in
     let on = goes_on _ _ _ _ _ _ _ _ goes (rw c.if-not-branch-2.false at takes) in
-    let p = err_from_is_err_and c.from_residual-in_err-add.result c.from_residual-in_err-add.ensures.1 in
-    rw (p.1, p.2) (err_means {T = Table} (λ table. record { scale = table.scale; entries = table.entries.items }) _ _ _ c.in_err-add.ensures.fault (on.fault _))
+    subst (MeansBy told_in c.settled-in-Err.result) (on.fault c.in-Err.fault c.in-Err.ensures.fault) c.settled-in-Err.ensures.told
 
 pub loop-number-preserved : goal.loop-number-preserved
 loop-number-preserved c =
     let goes = c.loop-number.invariant.goes in
     let takes = c.in_ok-next_record-2.ensures goes.left goes.leaves in
     let on = goes_on _ _ _ _ _ _ _ _ goes (rw c.if-not-branch-2.false at takes) in
-    record { few = rw c.in_ok-add.ensures.entries (one_more _ _ _ c.loop-number.invariant.few); goes = rw c.in_ok-add.ensures.entries (on.more c.in_ok-add.ensures.fault); kept = c.in_ok-add.ensures.kept; places = c.in_ok-add.ensures.places }
+    let more = grown c.loop-number.entries.items c.in-Ok.entry c.loop-number.number c.loop-number.invariant.few c.loop-number.invariant.each c.loop-number.invariant.rise c.loop-number.invariant.below c.in-Ok.ensures.kept in
+    record {
+      goes = rw c.in_ok-keep-in-Ok.ensures (on.more c.in-Ok.entry c.in-Ok.ensures.fault.0 c.in-Ok.ensures.fault.1);
+      few = rw c.in_ok-keep-in-Ok.ensures more.few;
+      each = rw c.in_ok-keep-in-Ok.ensures more.each;
+      rise = rw c.in_ok-keep-in-Ok.ensures more.rise;
+      below = rw c.in_ok-keep-in-Ok.ensures more.below;
+    }
 
 pub unreachable-requires : goal.unreachable-requires
 unreachable-requires c =

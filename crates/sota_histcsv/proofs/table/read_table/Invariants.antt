@@ -1,13 +1,16 @@
 use Rattle.std.proofs.Common.{◌<◌, length}
+use Rattle.std.specs.List.{All}
+use Rattle.sota_histcsv.specs.declared.entry.Entry.{Entry}
 use Rattle.sota_histcsv.specs.Records.{text_records}
-use Rattle.sota_histcsv.specs.Kept.{AreKept, ArePlaces}
+use Rattle.sota_histcsv.specs.Kept.{IsKept, NumbersRise}
 use Rattle.sota_histcsv.proofs.Telling.{Goes}
 use Rattle.sota_histcsv.proofs.table.read_table.Given as goal
 
 abbrev pub invariant-loop-number : goal.invariant-loop-number
 invariant-loop-number l = record {
-  goes : Goes l.arcs l.scale (text_records l.text) l.reader l.seen.entries.items l.number;
-  few : length l.seen.entries.items < l.number;
-  kept : AreKept l.seen.entries.items;
-  places : ArePlaces l.seen.places l.seen.entries.items;
+  goes : Goes l.arcs l.scale (text_records l.text) l.reader l.entries.items l.number;
+  few : length l.entries.items < l.number;
+  each : All IsKept l.entries.items;
+  rise : NumbersRise l.entries.items;
+  below : All (λ (entry : Entry). entry.number < l.number) l.entries.items;
 }

@@ -1,0 +1,58 @@
+// The first record that gives mass to a place that has some.
+ghost use Rattle.std.specs.Prelude.{◌≡◌, [], length, IfOk, option_map};
+ghost use Rattle.sota_histcsv.specs.declared.fault.HistFileFault.TheVariants.{RepeatedTick};
+ghost use Rattle.sota_histcsv.specs.Kept.{NumbersRise};
+ghost use Rattle.sota_histcsv.specs.Repeats.{first_repeat, IsByPlace, IsLeastRepeat, lesser, lesser_if};
+
+use crate::entry::Entry;
+use sota_units::NoMemory;
+use std::alloc::Global;
+
+/// The number of the first entry whose tick of its arc an earlier one has. Linear but for a sort.
+pub(crate) fn first_repeat(alloc: Global, entries: &[Entry]) -> Result<Option<u32>, NoMemory>
+    requires { NumbersRise entries.now }
+    ensures { IfOk result (λ number. option_map RepeatedTick number ≡ first_repeat [] entries.now) }
+{
+    let mut sorted = Vec::from_slice(alloc, entries)?;
+    sort_by_place(&mut sorted);
+    Ok(least_repeat(&sorted))
+}
+
+/// Puts the entries in the order of their arcs, then ticks, then numbers.
+fn sort_by_place(entries: &mut Vec<Entry>)
+    ensures { IsByPlace entries.old.items entries.new.items }
+{
+    entries.sort_unstable_by_key(|entry| (entry.arc, entry.tick, entry.number));
+}
+
+/// The least number of an entry that stands behind one of its place.
+fn least_repeat(sorted: &[Entry]) -> Option<u32>
+    ensures { IsLeastRepeat sorted.now (length sorted.now) result }
+{
+    let mut least = None;
+    for index in 1..sorted.len() {
+        least = lesser_if(least, sorted[index - 1], sorted[index]);
+    }
+    least
+}
+
+/// The lesser of a number, if any, and that of an entry, if one before it has its place.
+fn lesser_if(least: Option<u32>, before: Entry, entry: Entry) -> Option<u32>
+    ensures { result ≡ lesser_if least before entry }
+{
+    if before.arc == entry.arc && before.tick == entry.tick {
+        Some(lesser(least, entry.number))
+    } else {
+        least
+    }
+}
+
+/// The lesser of two numbers, of which one may lack.
+fn lesser(least: Option<u32>, number: u32) -> u32
+    ensures { result ≡ lesser least number }
+{
+    match least {
+        Some(least) if least < number => least,
+        _ => number,
+    }
+}
