@@ -22,13 +22,16 @@ pub record IsByPlace (entries sorted : List Entry) : Type 0 where
   pub moved : IsPermutation entries sorted
   pub order : (k : ℕ) (d : Entry) → k + 1 < length sorted → IsBefore (slice_index_or sorted k d) (slice_index_or sorted (k + 1) d)
 
+-- the lesser of two numbers, of which the first may lack
 abbrev pub lesser : Option ℕ → ℕ → ℕ
 lesser None number = number
 lesser (Some least) number = if nat_lt least number then least else number
 
+-- the lesser of a number and an entry's, where one before it has its place
 abbrev pub lesser_if : Option ℕ → Entry → Entry → Option ℕ
 lesser_if least before entry = if same_place before entry then Some (lesser least entry.number) else least
 
+-- there is a number, and it is no greater than another
 abbrev pub IsAtMost : Option ℕ → ℕ → Type 0
 IsAtMost None number = ⊥
 IsAtMost (Some least) number = least ≤ number
