@@ -60,9 +60,8 @@ impl Heft {
         requires { self ≤ scale * ONE }
         ensures { result ≡ floor_by scale self }
     {
-        let q = u128::from(scale.get());
         Grain {
-            value: (self.value / q) as u64,
+            value: scale.divide(self.value),
         }
     }
 
@@ -73,7 +72,7 @@ impl Heft {
     {
         let q = u128::from(scale.get());
         Grain {
-            value: ((self.value + (q - 1)) / q) as u64,
+            value: scale.divide(self.value + (q - 1)),
         }
     }
 }

@@ -4,6 +4,7 @@
 mod grain;
 mod heft;
 mod ids;
+mod limits;
 mod no_memory;
 mod scale;
 mod spelling;
@@ -12,6 +13,7 @@ mod steps;
 pub use grain::Grain;
 pub use heft::Heft;
 pub use ids::{ArcId, Mass, NodeId, Tick};
+pub use limits::{ARC_LIMIT, BUDGET_LIMIT, NODE_LIMIT, SCALE_LIMIT, TEXT_LIMIT};
 pub use no_memory::NoMemory;
 pub use scale::Scale;
 pub use spelling::{grain_text, read_grain};
