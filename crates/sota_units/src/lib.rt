@@ -4,6 +4,7 @@
 mod grain;
 mod heft;
 mod ids;
+mod items;
 mod limits;
 mod no_memory;
 mod scale;
@@ -13,6 +14,7 @@ mod steps;
 pub use grain::Grain;
 pub use heft::Heft;
 pub use ids::{ArcId, Mass, NodeId, Tick};
+pub use items::Items;
 pub use limits::{ARC_LIMIT, BUDGET_LIMIT, NODE_LIMIT, SCALE_LIMIT, TEXT_LIMIT};
 pub use no_memory::NoMemory;
 pub use scale::Scale;
