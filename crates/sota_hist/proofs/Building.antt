@@ -9,9 +9,10 @@ use Rattle.std.proofs.lemmas.List.Sums.{length-filter, count_by-le-length, fails
 use Rattle.std.proofs.lemmas.List.Sorted.{All-permutation, sum_by-IsPermutation}
 use Rattle.sota_units.specs.Rounding.{SCALE_LIMIT}
 use Rattle.sota_hist.specs.Time.{IsTime, total}
-use Rattle.sota_hist.specs.Build.{positive, time_of, zero_tick, repeated_tick, hist_fault}
+use Rattle.sota_units.specs.Memory.{IsFault}
+use Rattle.sota_hist.specs.Build.{positive, time_of, zero_tick, repeated_tick, tick_fault, hist_fault, is_shortage}
 use Rattle.sota_hist.specs.declared.fault.HistFault.{HistFault}
-use Rattle.sota_hist.specs.declared.fault.HistFault.TheVariants.{ZeroTick, RepeatedTick, Sum}
+use Rattle.sota_hist.specs.declared.fault.HistFault.TheVariants.{ZeroTick, RepeatedTick, Sum, NoMemory}
 use Rattle.std.specs.Option.{option_map, option_or}
 use Rattle.sota_hist.proofs.Ticks.{total-cons}
 use Rattle.sota_hist.proofs.Repeats.{IsChance, repeated-permutation, repeated_least, once_from_none, time_from_order}
@@ -81,72 +82,63 @@ position_missed p (x ∷ xs) i done fails =
     no_place p (x ∷ xs) x (nat_lt (position_or_len p (x ∷ xs)) (length (x ∷ xs))) refl (λ k h. fails k x (omega arith))
 
 -- ---- which fault it is
-pub at_zero : (z r : Option ℕ) (rest : Option HistFault) (place : ℕ) → z ≡ Some place → option_or (option_map (λ k. ZeroTick k) z) (option_or (option_map (λ t. RepeatedTick t) r) rest) ≡ Some (ZeroTick place)
-at_zero z r rest place is = rw is refl
+pub repeated-fault : (tick : ℕ) (ps sorted : List (ℕ × ℕ)) → zero_tick ps ≡ None
+    → IsPermutation (positive ps) sorted → Some tick ≡ repeated_tick sorted
+    → tick_fault ps ≡ Some (RepeatedTick tick)
+repeated-fault tick ps sorted no_zero moved is =
+    rw (no_zero, sym (repeated-permutation (positive ps) sorted moved) ∙ sym is) refl
 
-pub at_repeated : (z r : Option ℕ) (rest : Option HistFault) (tick : ℕ) → z ≡ None → r ≡ Some tick → option_or (option_map (λ k. ZeroTick k) z) (option_or (option_map (λ t. RepeatedTick t) r) rest) ≡ Some (RepeatedTick tick)
-at_repeated z r rest tick none is = rw (none, is) refl
+pub ticks-right : (ps sorted : List (ℕ × ℕ)) → zero_tick ps ≡ None
+    → IsPermutation (positive ps) sorted → None ≡ repeated_tick sorted → tick_fault ps ≡ None
+ticks-right ps sorted no_zero moved once =
+    rw (no_zero, sym (repeated-permutation (positive ps) sorted moved) ∙ sym once) refl
 
-at_rest : (z r : Option ℕ) (rest : Option HistFault) → z ≡ None → r ≡ None → option_or (option_map (λ k. ZeroTick k) z) (option_or (option_map (λ t. RepeatedTick t) r) rest) ≡ rest
-at_rest z r rest none once = rw (none, once) refl
+tick_fault-first : (tick rest : Option HistFault) (fault : HistFault) → tick ≡ Some fault
+    → option_or tick rest ≡ Some fault
+tick_fault-first tick rest fault is = rw is refl
 
-sum_fault : (scale sum : ℕ) → (sum ≡ scale → ⊥) → cond (sum == scale) None (Some (Sum sum)) ≡ Some (Sum sum)
-sum_fault scale sum other = rw (ne_eqb sum scale other) refl
+-- a wrong tick decides, whatever the total
+pub hist_fault-tick : (fits : ℕ → Bool) (ps : List (ℕ × ℕ)) (fault : HistFault)
+    → IsFault is_shortage (tick_fault ps) fault → IsFault is_shortage (hist_fault fits ps) fault
+hist_fault-tick fits ps (ZeroTick place) is = tick_fault-first (tick_fault ps) _ _ is
+hist_fault-tick fits ps (RepeatedTick tick) is = tick_fault-first (tick_fault ps) _ _ is
+hist_fault-tick fits ps (Sum sum) is = tick_fault-first (tick_fault ps) _ _ is
+hist_fault-tick fits ps NoMemory is = tt
 
-sum_right : (scale sum : ℕ) → sum ≡ scale → cond {A = Option HistFault} (sum == scale) None (Some (Sum sum)) ≡ None
-sum_right scale sum same = rw (eq-eqb sum scale same) refl
+pub hist_fault-sum : (fits : ℕ → Bool) (ps : List (ℕ × ℕ)) (sum : ℕ) → tick_fault ps ≡ None
+    → sum ≡ total ps → fits sum ≡ false → hist_fault fits ps ≡ Some (Sum sum)
+hist_fault-sum fits ps sum none is fails = rw (none, ← is, fails) refl
 
-pub fault_repeated : (scale tick : ℕ) (ps sorted : List (ℕ × ℕ)) → zero_tick ps ≡ None → IsPermutation (positive ps) sorted → repeated_tick sorted ≡ Some tick → hist_fault scale ps ≡ Some (RepeatedTick tick)
-fault_repeated scale tick ps sorted no_zero moved is =
-    at_repeated (zero_tick ps) (repeated_tick (positive ps)) (cond (total ps == scale) None (Some (Sum (total ps)))) tick no_zero (sym (repeated-permutation (positive ps) sorted moved) ∙ is)
-
-pub fault_sum : (scale sum : ℕ) (ps sorted : List (ℕ × ℕ)) → zero_tick ps ≡ None → IsPermutation (positive ps) sorted → repeated_tick sorted ≡ None → sum ≡ total sorted → (sum ≡ scale → ⊥) → hist_fault scale ps ≡ Some (Sum sum)
-fault_sum scale sum ps sorted no_zero moved once is other =
-    let whole : sum ≡ total ps = is ∙ total-sorted ps sorted moved in
-    at_rest (zero_tick ps) (repeated_tick (positive ps)) (cond (total ps == scale) None (Some (Sum (total ps)))) no_zero (sym (repeated-permutation (positive ps) sorted moved) ∙ once)
-    ∙ sum_fault scale (total ps) (λ e. other (whole ∙ e)) ∙ ap (λ (n : ℕ). Some (Sum n)) (sym whole)
-
-pub fault_none : (scale : ℕ) (ps sorted : List (ℕ × ℕ)) → zero_tick ps ≡ None → IsPermutation (positive ps) sorted → repeated_tick sorted ≡ None → total sorted ≡ scale → hist_fault scale ps ≡ None
-fault_none scale ps sorted no_zero moved once same =
-    at_rest (zero_tick ps) (repeated_tick (positive ps)) (cond (total ps == scale) None (Some (Sum (total ps)))) no_zero (sym (repeated-permutation (positive ps) sorted moved) ∙ once)
-    ∙ sum_right scale (total ps) (sym (total-sorted ps sorted moved) ∙ same)
+pub hist_fault-none : (fits : ℕ → Bool) (ps : List (ℕ × ℕ)) (sum : ℕ) → tick_fault ps ≡ None
+    → sum ≡ total ps → fits sum ≡ true → hist_fault fits ps ≡ None
+hist_fault-none fits ps sum none is passes = rw (none, ← is, passes) refl
 
 pub length-positive : (ps : List (ℕ × ℕ)) → length (positive ps) ≤ length ps
 length-positive ps = omega (arith, length-filter (λ (p : ℕ × ℕ). nat_lt 0 p.1) ps, count_by-le-length (λ (p : ℕ × ℕ). nat_lt 0 p.1) ps)
 
--- what holds of the pairs that a histogram is made of
-pub record IsMade (scale : ℕ) (ps items : List (ℕ × ℕ)) : Type 0 where
-  pub valid : IsTime items
-  pub some : 1 ≤ total items
-  pub within : total items ≤ SCALE_LIMIT
-  pub fault : hist_fault scale ps ≡ None
-  pub is : items ≡ time_of ps
-
-pub made : (scale : ℕ) (ps sorted items : List (ℕ × ℕ)) → zero_tick ps ≡ None → IsPermutation (positive ps) sorted → IsNonDecreasingBy (λ p. p.0) sorted → repeated_tick sorted ≡ None → total sorted ≡ scale → items ≡ sorted → 1 ≤ scale → scale ≤ SCALE_LIMIT
-    → IsMade scale ps items
-made scale ps sorted items no_zero moved ordered once sum same low high =
-    let time = built ps sorted no_zero moved ordered once in
-    subst (IsMade scale ps) (sym same)
-    (record { valid = time.valid; some = rw sum low; within = rw sum high; fault = fault_none scale ps sorted no_zero moved once sum; is = time.is })
-
 -- ---- what no fault says
-no_fault : (z r : Option ℕ) (rest : Option HistFault) → option_or (option_map (λ k. ZeroTick k) z) (option_or (option_map (λ t. RepeatedTick t) r) rest) ≡ None → (z ≡ None) × (r ≡ None) × (rest ≡ None)
-no_fault None None rest none = (refl, refl, none)
-no_fault None (Some tick) rest none = absurd (none-some (RepeatedTick tick) (sym none))
-no_fault (Some place) r rest none = absurd (none-some (ZeroTick place) (sym none))
+no_tick_fault : (z r : Option ℕ)
+    → option_or (option_map (λ k. ZeroTick k) z) (option_map (λ t. RepeatedTick t) r) ≡ None
+    → (z ≡ None) × (r ≡ None)
+no_tick_fault None None none = (refl, refl)
+no_tick_fault None (Some tick) none = absurd (none-some (RepeatedTick tick) (sym none))
+no_tick_fault (Some place) r none = absurd (none-some (ZeroTick place) (sym none))
 
-sum_same : (scale sum : ℕ) → cond {A = Option HistFault} (sum == scale) None (Some (Sum sum)) ≡ None → sum ≡ scale
-sum_same scale sum none =
-    ⊎_elim
-    (λ (same : sum ≡ scale). same)
-    (λ (other : sum ≡ scale → ⊥). absurd (none-some (Sum sum) (sym none ∙ sum_fault scale sum other)))
-    (cases_eq sum scale)
+no_fault : (tick : Option HistFault) (fits : Bool) (sum : ℕ)
+    → option_or tick (cond fits None (Some (Sum sum))) ≡ None → (tick ≡ None) × (fits ≡ true)
+no_fault None true sum none = (refl, refl)
+no_fault None false sum none = absurd (none-some (Sum sum) (sym none))
+no_fault (Some fault) fits sum none = absurd (none-some fault (sym none))
 
 -- pairs in which nothing is wrong
-pub time-from_no_fault : (scale : ℕ) (ps : List (ℕ × ℕ)) → hist_fault scale ps ≡ None → IsTime (time_of ps) × (total (time_of ps) ≡ scale)
-time-from_no_fault scale ps none =
-    let parts = no_fault (zero_tick ps) (repeated_tick (positive ps)) (cond (total ps == scale) None (Some (Sum (total ps)))) none in
-    let few = once_from_none (positive ps) (repeated_tick (positive ps)) parts.1 (repeated_least (positive ps)) in (
-      rising-rises (positive ps) few (chances ps parts.0),
-      total-sorted ps (time_of ps) (rising-permutes (positive ps)) ∙ sum_same scale (total ps) parts.2,
+pub time-from_no_fault : (fits : ℕ → Bool) (ps : List (ℕ × ℕ)) → hist_fault fits ps ≡ None
+    → IsTime (time_of ps) × (total (time_of ps) ≡ total ps) × (fits (total ps) ≡ true)
+time-from_no_fault fits ps none =
+    let parts = no_fault (tick_fault ps) (fits (total ps)) (total ps) none in
+    let right = no_tick_fault (zero_tick ps) (repeated_tick (positive ps)) parts.0 in
+    let few = once_from_none (positive ps) (repeated_tick (positive ps)) right.1
+    (repeated_least (positive ps)) in (
+      rising-rises (positive ps) few (chances ps right.0),
+      total-sorted ps (time_of ps) (rising-permutes (positive ps)),
+      parts.1,
     )

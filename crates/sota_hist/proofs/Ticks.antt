@@ -3,8 +3,8 @@ use Rattle.std.proofs.Common.{ℕ, zero, suc, ◌≡◌, ◌+◌, ◌-◌, ◌<�
 use Rattle.std.specs.List.{filter}
 use Rattle.std.specs.List.Sorted.{IsNonDecreasingBy, IsPartitionPoint}
 use Rattle.std.proofs.lemmas.List.Sums.{sum_by-cons}
-use Rattle.std.proofs.lemmas.Bool.{cases_eq, cases_lt, le-leb, lt-leb, le-ltb, eq-eqb, ne_eqb}
-use Rattle.sota_hist.specs.Time.{RisesFrom, IsTime, total, ticks, within, before, mass_at, greatest_tick}
+use Rattle.std.proofs.lemmas.Bool.{true≢false, cases_eq, cases_lt, le-leb, lt-leb, le-ltb, eq-eqb, ne_eqb}
+use Rattle.sota_hist.specs.Time.{RisesFrom, IsTime, total, ticks, within, before, mass_at, greatest_tick, is_closed}
 use Rattle.sota_hist.proofs.Least.{Among}
 
 pub total-cons : (p : ℕ × ℕ) (ps : List (ℕ × ℕ)) → total (p ∷ ps) ≡ p.1 + total ps
@@ -79,9 +79,10 @@ greatest_tick_last floor p (q ∷ ps) d r =
     let top : max p.0 (greatest_tick (q ∷ ps)) ≡ greatest_tick (q ∷ ps) = omega (arith, rest.1) in
     (top ∙ rest.0, omega (arith, rest.1, r.0))
 
-pub some_from_total : (ps : List (ℕ × ℕ)) → 1 ≤ total ps → 0 < length ps
-some_from_total [] h = absurd (omega arith)
-some_from_total (p ∷ ps) h = omega arith
+-- an open histogram has a first pair
+pub some_from_open : (ps : List (ℕ × ℕ)) → is_closed ps ≡ false → 0 < length ps
+some_from_open [] open_ = absurd (true≢false open_)
+some_from_open (p ∷ ps) open_ = omega arith
 
 -- ---- the order by index, as std's searches have it
 pub rises_at : (floor : ℕ) (ps : List (ℕ × ℕ)) (k : ℕ) (d : ℕ × ℕ) → RisesFrom floor ps → k < length ps → (floor < (get_or ps k d).0) × (1 ≤ (get_or ps k d).1)
@@ -116,7 +117,7 @@ length-le-total floor [] r = omega arith
 length-le-total floor (p ∷ ps) r = omega (arith, length-le-total p.0 ps r.2, total-cons p ps, r.1)
 
 -- what the reads of a histogram stand on
-pub ruleset readings = (some_from_total, length-le-total)
+pub ruleset readings = (some_from_open, length-le-total)
 
 -- the pairs within a limit rise as well
 pub rises_within : (floor t : ℕ) (ps : List (ℕ × ℕ)) → RisesFrom floor ps → RisesFrom floor (within t ps)

@@ -1,2 +1,3 @@
 pub mod Time
 pub mod Build
+pub mod Words

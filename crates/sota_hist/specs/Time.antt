@@ -1,5 +1,6 @@
 -- The travel time of an arc: which ticks it may take, and the mass of each.
-use Rattle.std.specs.Prelude.{ℕ, ◌<◌, ◌≤◌, ◌==◌, nat_le, nat_lt, not, min, max, List, [], ◌∷◌, ◌++◌, map, Option, None, Some}
+use Rattle.std.specs.Prelude.{ℕ, Bool, true, false, ◌<◌, ◌≤◌, ◌==◌, nat_le, nat_lt, not, min, max}
+use Rattle.std.specs.Prelude.{List, [], ◌∷◌, ◌++◌, map, Option, None, Some}
 use Rattle.std.specs.Option.{option_map_or}
 use Rattle.std.specs.List.{sum_by, filter}
 
@@ -15,6 +16,11 @@ IsTime pairs = RisesFrom 0 pairs
 -- the sum of the masses
 abbrev pub total : List (ℕ × ℕ) → ℕ
 total pairs = sum_by (λ p. p.1) pairs
+
+-- whether there is no pair: then no traversal ever ends, and the arc is closed
+abbrev pub is_closed : List (ℕ × ℕ) → Bool
+is_closed [] = true
+is_closed (p ∷ ps) = false
 
 -- the least tick, 0 where there is none: ticks rise, so it is the first
 abbrev pub least_tick : List (ℕ × ℕ) → ℕ
@@ -47,9 +53,11 @@ abbrev pub least_of : List ℕ → Option ℕ
 least_of [] = None
 least_of (x ∷ xs) = Some (option_map_or (λ y. min x y) (least_of xs) x)
 
--- the least tick at which two times have different masses: it is a tick of one of them, since the mass elsewhere is 0 in both
+-- the least tick at which two times have different masses: it is a tick of one of them, since the
+-- mass elsewhere is 0 in both
 abbrev pub first_difference : List (ℕ × ℕ) → List (ℕ × ℕ) → Option ℕ
-first_difference one other = least_of (filter (λ t. not (mass_at t one == mass_at t other)) (ticks one ++ ticks other))
+first_difference one other =
+    least_of (filter (λ t. not (mass_at t one == mass_at t other)) (ticks one ++ ticks other))
 
 -- the first tick whose cumulated mass exceeds the draw
 abbrev pub picked : ℕ → List (ℕ × ℕ) → Option ℕ

@@ -1,5 +1,6 @@
 // Why pairs give no histogram.
 ghost use Rattle.std.specs.Prelude.{◌≡◌};
+ghost use Rattle.sota_hist.specs.Words.{fault_word};
 
 use sota_units::{NoMemory, Tick};
 
@@ -10,10 +11,24 @@ pub enum HistFault {
     ZeroTick(u32),
     /// The least tick that stands twice among the pairs of positive mass.
     RepeatedTick(Tick),
-    /// The total of the masses, where it is not the scale.
+    /// The total of the masses, where it does not fit the scale.
     Sum(u64),
     /// Memory was wanted, and there was none.
     NoMemory,
+}
+
+impl HistFault {
+    /// Its name, as replies print it.
+    pub fn word(&self) -> &'static [u8]
+        ensures { result.now ≡ fault_word self.now }
+    {
+        match self {
+            HistFault::ZeroTick(_) => b"ZeroTick",
+            HistFault::RepeatedTick(_) => b"RepeatedTick",
+            HistFault::Sum(_) => b"Sum",
+            HistFault::NoMemory => b"NoMemory",
+        }
+    }
 }
 
 impl From<NoMemory> for HistFault {
