@@ -109,13 +109,17 @@ def id_order(name: str) -> list[int | str]:
 
 @dataclass
 class Road:
-    """A road with the times observed on it, in ticks, and the time it takes for want of any."""
+    """A road and how often each time, in ticks, was observed on it.
+
+    A road with a usual time may be certain: it then takes that time, whatever was observed.
+    """
 
     name: str
     tail: str
     head: str
     times: Counter[int] = field(default_factory=Counter)
     usual: int = 0
+    certain: bool = False
 
     def observations(self) -> int:
         return sum(self.times.values())
@@ -170,7 +174,7 @@ def write_network(roads: list[Road], prefix: str, scale: int, few: int, about: s
     times = [f"arc,tick,mass/{scale}"]
     lost: list[str] = []
     for arc, road in enumerate(roads, start=1):
-        pairs = masses(road.times, scale) if road.times else []
+        pairs = [] if road.certain else masses(road.times, scale)
         times += [f"{arc},{tick},{mass}" for tick, mass in pairs if mass]
         gone = sum(mass == 0 for _, mass in pairs)
         if gone:
@@ -182,12 +186,13 @@ def write_network(roads: list[Road], prefix: str, scale: int, few: int, about: s
 
 
 def few_remarks(roads: list[Road], few: int) -> list[str]:
-    """Names the roads with fewer observations than asked for."""
+    """Names the roads with fewer observations than asked for, and those taken as certain."""
     return [
         f"few observations: road {road.name} from {road.tail} to {road.head} "
         f"has {road.observations()}"
+        + (f" and takes {road.weight()} ticks for certain" if road.certain else "")
         for road in roads
-        if road.observations() < few
+        if road.certain or road.observations() < few
     ]
 
 
