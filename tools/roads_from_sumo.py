@@ -194,15 +194,34 @@ def arguments() -> argparse.ArgumentParser:
     source = parser.add_mutually_exclusive_group(required=True)
     source.add_argument("--routes", metavar="FILE", help="routes of vehicles with exit times")
     source.add_argument("--edgedata", metavar="FILE", help="mean times by road and interval")
-    parser.add_argument("--tick", type=tick_length, default=Fraction(1), metavar="SECONDS",
-                        help="the length of a tick in seconds, such as 5 or 0.5 (default 1)")
-    parser.add_argument("--scale", type=number_from(1, SCALE_LIMIT), default=1_000_000,
-                        metavar="Q", help="what the masses of a road sum to (default 1000000)")
-    parser.add_argument("--few", type=number_from(0, NUMBER_LIMIT), default=5, metavar="N",
-                        help="a road with fewer than N observations is named and takes its "
-                        "weight (default 5)")
-    parser.add_argument("--class", dest="kind", default="passenger", metavar="CLASS",
-                        help="the roads open to this class of vehicles (default passenger)")
+    parser.add_argument(
+        "--tick",
+        type=tick_length,
+        default=Fraction(1),
+        metavar="SECONDS",
+        help="the length of a tick in seconds, such as 5 or 0.5 (default 1)",
+    )
+    parser.add_argument(
+        "--scale",
+        type=number_from(1, SCALE_LIMIT),
+        default=1_000_000,
+        metavar="Q",
+        help="what the masses of a road sum to (default 1000000)",
+    )
+    parser.add_argument(
+        "--few",
+        type=number_from(0, NUMBER_LIMIT),
+        default=5,
+        metavar="N",
+        help="a road with fewer than N observations is named and takes its " "weight (default 5)",
+    )
+    parser.add_argument(
+        "--class",
+        dest="kind",
+        default="passenger",
+        metavar="CLASS",
+        help="the roads open to this class of vehicles (default passenger)",
+    )
     return parser
 
 

@@ -27,6 +27,7 @@ from sota_files import (
     Made,
     Road,
     at,
+    first_record,
     number_from,
     read_records,
     run_tool,
@@ -106,7 +107,7 @@ class Reader:
 def read_trips(path: str, tick: Fraction) -> list[Road]:
     """The roads of a file of trips; BadData names every line that cannot be used."""
     records = read_records(path)
-    line, header = next(records, (1, []))
+    line, header = first_record(records)
     missing = [column for column in COLUMNS if header.count(column) != 1]
     if missing:
         raise BadData(at(path, line, f"the header does not name once: {', '.join(missing)}"))
@@ -139,12 +140,27 @@ def arguments() -> argparse.ArgumentParser:
     )
     parser.add_argument("trips", metavar="TRIPS", help="the CSV file of observed trips")
     parser.add_argument("prefix", metavar="PREFIX", help="how the names of the three files begin")
-    parser.add_argument("--tick", type=tick_length, default=Fraction(1), metavar="SECONDS",
-                        help="the length of a tick in seconds, such as 5 or 0.5 (default 1)")
-    parser.add_argument("--scale", type=number_from(1, SCALE_LIMIT), default=1_000_000,
-                        metavar="Q", help="what the masses of a road sum to (default 1000000)")
-    parser.add_argument("--few", type=number_from(0, NUMBER_LIMIT), default=5, metavar="N",
-                        help="name the roads with fewer than N observations (default 5)")
+    parser.add_argument(
+        "--tick",
+        type=tick_length,
+        default=Fraction(1),
+        metavar="SECONDS",
+        help="the length of a tick in seconds, such as 5 or 0.5 (default 1)",
+    )
+    parser.add_argument(
+        "--scale",
+        type=number_from(1, SCALE_LIMIT),
+        default=1_000_000,
+        metavar="Q",
+        help="what the masses of a road sum to (default 1000000)",
+    )
+    parser.add_argument(
+        "--few",
+        type=number_from(0, NUMBER_LIMIT),
+        default=5,
+        metavar="N",
+        help="name the roads with fewer than N observations (default 5)",
+    )
     return parser
 
 

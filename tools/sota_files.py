@@ -98,6 +98,13 @@ def read_records(path: Path | str) -> Iterator[tuple[int, list[str]]]:
         raise BadData(at(path, line, f"not CSV: {fault}")) from None
 
 
+def first_record(records: Iterator[tuple[int, list[str]]]) -> tuple[int, list[str]]:
+    """The header of a CSV file and its line, empty where there is no record."""
+    for record in records:
+        return record
+    return 1, []
+
+
 def id_order(name: str) -> list[int | str]:
     """A key that puts ids in the order a person expects: J2 before J10."""
     parts = re.split("([0-9]+)", name)
@@ -201,7 +208,8 @@ def write_lines(path: str, lines: list[str]) -> None:
     text = "".join(line + "\n" for line in lines)
     if len(text.encode()) > FILE_LIMIT:
         raise BadData(f"{path} would have more than {FILE_LIMIT} bytes; take longer ticks")
-    Path(path).write_text(text, encoding="utf-8", newline="\n")
+    with open(path, "w", encoding="utf-8", newline="\n") as out:
+        out.write(text)
 
 
 # Tables of ids
@@ -254,7 +262,7 @@ def read_ids(path: str | None) -> Ids:
     ids = Ids(path)
     kinds = {"node": ids.nodes, "arc": ids.arcs}
     records = read_records(path)
-    line, header = next(records, (1, []))
+    line, header = first_record(records)
     if header[:3] != IDS_HEADER[:3]:
         raise BadData(at(path, line, "the header of a table of ids begins with kind,number,id"))
     for line, fields in records:
@@ -319,7 +327,7 @@ def read_network(graph: str, histograms: str) -> Network:
     if histograms == "-":
         return Network(nodes, 1, [Arc(tail, head, [(weight, 1)]) for tail, head, weight in ends])
     records = read_records(histograms)
-    line, header = next(records, (1, []))
+    line, header = first_record(records)
     if len(header) != 3 or not re.fullmatch("mass/[0-9]{1,10}", header[2]):
         raise BadData(at(histograms, line, "the header is not arc,tick,mass/Q"))
     scale = int(header[2][len("mass/") :])
@@ -363,5 +371,5 @@ class Clock:
 
     def words(self, ticks: int) -> str:
         if self.seconds is None:
-            return f"{ticks}"
+            return f"{ticks} ticks"
         return f"{ticks * self.seconds:g} s"
