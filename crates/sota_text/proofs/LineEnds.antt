@@ -1,4 +1,4 @@
--- A line's piece and what stands behind it.
+-- A line's piece and what stands after it.
 use Rattle.std.proofs.Common.{◌≡◌, ℕ, ◌+◌, ◌-◌, ◌<◌, List, [], ◌∷◌, length, drop, slice_range, refl, sym, ◌∙◌, ap, arith, length-drop, take_all}
 use Rattle.std.proofs.lemmas.List.{drop_all}
 use Rattle.std.specs.List.{slice_split}

@@ -43,7 +43,7 @@ last_part p xs start stop ends e =
     let at = first_passing p xs start stop ends in
     one_part p (drop start xs) (omega (arith, size, at))
 
--- a part with another behind it
+-- a part with another after it
 pub inner_part : (p : ℕ → Bool) (xs : List ℕ) (start stop : ℕ) → EndsAt p xs start stop → stop < length xs
     → slice_split p (drop start xs) ≡ take (stop - start) (drop start xs) ∷ slice_split p (drop (stop + 1) xs)
 inner_part p xs start stop ends e =

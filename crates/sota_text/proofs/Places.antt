@@ -1,4 +1,4 @@
--- A field and what stands behind it.
+-- A field and what stands after it.
 use Rattle.std.proofs.Common.{◌≡◌, ℕ, ◌+◌, ◌-◌, ◌<◌, suc, List, [], ◌∷◌, true, false, nat_lt, filter, length, take, drop, get_or, refl, sym, ◌∙◌, ap, arith, add-zero, drop-cons, length-drop, length-take-le}
 use Rattle.std.proofs.lemmas.List.{drop_all}
 use Rattle.std.specs.List.{slice_split}
@@ -33,7 +33,7 @@ last_field line start stop ends h e =
     ∙ ap (λ (spans : List Span). record { from = start; to = stop } ∷ spans)
     (sym (ap (fields_from stop) (drop_all stop line (omega (arith, e))) ∙ rw (add-zero, not_below stop) refl))
 
--- a field with a blank behind it
+-- a field with a blank after it
 pub inner_field : (line : List ℕ) (start stop : ℕ) → EndsAt is_blank line start stop → start < stop → stop < length line
     → fields_from start (drop start line) ≡ record { from = start; to = stop } ∷ fields_from stop (drop stop line)
 inner_field line start stop ends h e =

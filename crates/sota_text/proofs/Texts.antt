@@ -13,8 +13,8 @@ Stand bytes from [] = Unit {0}
 Stand bytes from (piece ∷ pieces) =
     (take (length piece) (drop from bytes) ≡ piece) × (from + length piece ≤ length bytes) × Stand bytes (from + length piece + 1) pieces
 
-behind : (bytes xs : List ℕ) (from x : ℕ) → drop from bytes ≡ x ∷ xs → (drop (from + 1) bytes ≡ xs) × (from + 1 ≤ length bytes)
-behind bytes xs from x e = (sym (drop-drop 1 from bytes) ∙ ap (drop 1) e, omega (arith, length-drop from bytes, ap length e))
+drop_next : (bytes xs : List ℕ) (from x : ℕ) → drop from bytes ≡ x ∷ xs → (drop (from + 1) bytes ≡ xs) × (from + 1 ≤ length bytes)
+drop_next bytes xs from x e = (sym (drop-drop 1 from bytes) ∙ ap (drop 1) e, omega (arith, length-drop from bytes, ap length e))
 
 front_separator : (bytes : List ℕ) (from : ℕ) (pieces : List (List ℕ)) → from ≤ length bytes → Stand bytes (from + 1) pieces → Stand bytes from ([] ∷ pieces)
 front_separator bytes from pieces h stand = (refl, omega arith, rw add-zero stand)
@@ -22,7 +22,7 @@ front_separator bytes from pieces h stand = (refl, omega arith, rw add-zero stan
 front_byte : (bytes xs : List ℕ) (from x : ℕ) (pieces : List (List ℕ)) → drop from bytes ≡ x ∷ xs → (y : List ℕ) (ys : List (List ℕ)) → pieces ≡ y ∷ ys
     → Stand bytes (from + 1) pieces → Stand bytes from (onto_first x pieces)
 front_byte bytes xs from x pieces e y ys is stand =
-    let next = behind bytes xs from x e in
+    let next = drop_next bytes xs from x e in
     let first = subst (λ pieces. Stand bytes (from + 1) pieces) is stand in
     let there : from + 1 + length y + 1 ≡ from + suc (length y) + 1 = omega arith in
     let long : from + suc (length y) ≤ length bytes = omega (arith, first.1) in
@@ -34,7 +34,7 @@ front_byte bytes xs from x pieces e y ys is stand =
 pub split_stands : (p : ℕ → Bool) (bytes xs : List ℕ) (from : ℕ) → drop from bytes ≡ xs → from ≤ length bytes → Stand bytes from (slice_split p xs)
 split_stands p bytes [] from e h = (refl, omega arith, tt)
 split_stands p bytes (x ∷ xs) from e h =
-    let next = behind bytes xs from x e in
+    let next = drop_next bytes xs from x e in
     let rest = split_stands p bytes xs (from + 1) next.0 next.1 in
     let part = some_part p xs in
     elim (p x) as (λ b. Stand bytes from (cond b ([] ∷ slice_split p xs) (onto_first x (slice_split p xs)))) [

@@ -1,5 +1,7 @@
 -- Lines, fields and numbers of a text of bytes.
-use Rattle.std.specs.Prelude.{ℕ, ◌-◌, List, [], ◌∷◌, Bool, true, false, ◌==◌, ◌||◌, ◌&&◌, not, nat_le, length, take, map, filter, slice_index, Option, Some, None, if◌then◌else◌}
+use Rattle.std.specs.Prelude.{ℕ, ◌-◌, nat_le, List, [], ◌∷◌, Option, Some, None, if◌then◌else◌}
+use Rattle.std.specs.Prelude.{Bool, true, false, ◌==◌, ◌||◌, ◌&&◌, not}
+use Rattle.std.specs.Prelude.{length, take, map, filter, slice_index}
 use Rattle.std.specs.List.{slice_split, enumerate_from}
 use Rattle.std.specs.Str.{all_ascii_digits}
 use Rattle.std.specs.Str.Parse.{digits_value}
@@ -14,7 +16,8 @@ is_empty (x ∷ xs) = false
 abbrev pub is_line_end : ℕ → Bool
 is_line_end byte = byte == 10
 
--- the pieces between the line ends; what stands behind the last one is a piece only where it is not empty
+-- the pieces between the line ends; what stands after the last one is a piece only where it is
+-- not empty
 abbrev pub pieces_ended : List (List ℕ) → List (List ℕ)
 pieces_ended [] = []
 pieces_ended (piece ∷ more ∷ pieces) = piece ∷ pieces_ended (more ∷ pieces)
@@ -25,7 +28,8 @@ line_pieces bytes = pieces_ended (slice_split is_line_end bytes)
 
 -- one CR at the end of a piece is no part of its line; a second one is
 abbrev pub without_cr : List ℕ → List ℕ
-without_cr piece = if slice_index piece (length piece - 1) == 13 then take (length piece - 1) piece else piece
+without_cr piece =
+    if slice_index piece (length piece - 1) == 13 then take (length piece - 1) piece else piece
 
 -- the lines of a text
 abbrev pub text_lines : List ℕ → List (List ℕ)
@@ -49,7 +53,8 @@ fields_of line = filter (λ piece. not (is_empty piece)) (slice_split is_blank l
 
 -- one decimal digit or more, leading zeros allowed, and a value of at most 2^32 - 1
 abbrev pub is_number : List ℕ → Bool
-is_number bytes = not (is_empty bytes) && (all_ascii_digits bytes && nat_le (digits_value 10 bytes) 4294967295)
+is_number bytes =
+    not (is_empty bytes) && (all_ascii_digits bytes && nat_le (digits_value 10 bytes) 4294967295)
 
 abbrev pub number_of : List ℕ → Option ℕ
 number_of bytes = if is_number bytes then Some (digits_value 10 bytes) else None

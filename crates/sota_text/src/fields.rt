@@ -1,5 +1,6 @@
 // The longest runs of bytes other than space and tab.
-ghost use Rattle.std.specs.Prelude.{◌≡◌, ◌≤◌, ◌<◌, length, drop, map, false, slice_index, ◌∷◌};
+ghost use Rattle.std.specs.Prelude.{◌≡◌, ◌≤◌, ◌<◌, ◌∷◌};
+ghost use Rattle.std.specs.Prelude.{length, drop, map, false, slice_index};
 ghost use Rattle.std.specs.Iterator.{YieldsFirst, item_count};
 ghost use Rattle.sota_text.specs.Text.{is_blank, fields_of};
 ghost use Rattle.sota_text.specs.Spans.{fields_from, field_spans, bytes_of, AreWithin};
@@ -66,7 +67,8 @@ fn is_blank(byte: u8) -> bool
 fn skip_blanks(line: &[u8], start: usize) -> usize
     requires { start ≤ length line.now }
     ensures within { (start ≤ result) × (result ≤ length line.now) }
-    ensures same { fields_from result (drop result line.now) ≡ fields_from start (drop start line.now) }
+    ensures same { fields_from result (drop result line.now)
+        ≡ fields_from start (drop start line.now) }
     ensures end { result < length line.now → is_blank (slice_index line.now result) ≡ false }
 {
     let mut at = start;
@@ -81,7 +83,8 @@ fn skip_field(line: &[u8], start: usize) -> usize
     requires inside { start < length line.now }
     requires begins { is_blank (slice_index line.now start) ≡ false }
     ensures within { (start < result) × (result ≤ length line.now) }
-    ensures first { fields_from start (drop start line.now) ≡ (record { from = start; to = result }) ∷ fields_from result (drop result line.now) }
+    ensures first { fields_from start (drop start line.now)
+        ≡ (record { from = start; to = result }) ∷ fields_from result (drop result line.now) }
 {
     let mut at = start + 1;
     while at < line.len() && !is_blank(line[at]) {

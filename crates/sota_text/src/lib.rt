@@ -1,4 +1,5 @@
-//! Texts of bytes: lines, fields and numbers by their places, and text that is written piece by piece.
+//! Texts of bytes: lines, fields and numbers by their places, and text that is written piece by
+//! piece.
 #![tactic(auto)]
 
 mod fields;

@@ -1,5 +1,6 @@
 // The lines of a text. They end with LF, and one CR before that is dropped.
-ghost use Rattle.std.specs.Prelude.{◌≡◌, ◌≤◌, ◌<◌, ◌+◌, ◌^◌, length, drop, map, slice_range, ◌∷◌};
+ghost use Rattle.std.specs.Prelude.{◌≡◌, ◌≤◌, ◌<◌, ◌+◌, ◌^◌, ◌∷◌};
+ghost use Rattle.std.specs.Prelude.{length, drop, map, slice_range};
 ghost use Rattle.std.specs.Iterator.{YieldsFirst, item_count};
 ghost use Rattle.sota_text.specs.Text.{line_pieces, without_cr, numbered_lines};
 ghost use Rattle.sota_text.specs.Spans.{line_spans, bytes_of, AreWithin};
@@ -24,7 +25,8 @@ impl<'a> Model for Lines<'a> {
 
     ghost view = { λ lines. lines_from lines.before lines.at (drop lines.at lines.bytes.now) };
 
-    ghost invariant = { λ lines. (lines.before ≤ lines.at) × (lines.at ≤ length lines.bytes.now + 1) × (length lines.bytes.now < 2 ^ 32) };
+    ghost invariant = { λ lines. (lines.before ≤ lines.at) × (lines.at ≤ length lines.bytes.now + 1)
+        × (length lines.bytes.now < 2 ^ 32) };
 }
 
 impl<'a> Lines<'a> {
@@ -32,7 +34,8 @@ impl<'a> Lines<'a> {
     pub fn new(bytes: &'a [u8]) -> Self
         requires { length bytes.now < 2 ^ 32 }
         ensures spans { result ≡ line_spans bytes.now }
-        ensures texts { map (λ line. (line.number, bytes_of bytes.now line.span)) result ≡ numbered_lines bytes.now }
+        ensures texts { map (λ line. (line.number, bytes_of bytes.now line.span)) result
+            ≡ numbered_lines bytes.now }
         ensures within { AreWithin bytes.now (map (λ line. line.span) result) }
     {
         Lines {
@@ -70,7 +73,8 @@ impl Iterator for Lines<'_> {
 fn piece_end(bytes: &[u8], start: usize) -> usize
     requires { start < length bytes.now }
     ensures within { (start ≤ result) × (result ≤ length bytes.now) }
-    ensures first { line_pieces (drop start bytes.now) ≡ slice_range bytes.now start result ∷ line_pieces (drop (result + 1) bytes.now) }
+    ensures first { line_pieces (drop start bytes.now)
+        ≡ slice_range bytes.now start result ∷ line_pieces (drop (result + 1) bytes.now) }
 {
     let mut at = start;
     while at < bytes.len() && bytes[at] != b'\n' {

@@ -2,7 +2,8 @@
 ghost use Rattle.std.specs.Prelude.{◌≡◌};
 ghost use Rattle.sota_text.specs.Text.{number_of};
 
-/// The number that the bytes write. None exactly where they are not one decimal digit or more, or write more than 2^32 - 1.
+/// The number that the bytes write. None exactly where they are not one decimal digit or more, or
+/// write more than 2^32 - 1.
 pub fn read_u32(bytes: &[u8]) -> Option<u32>
     ensures { result ≡ number_of bytes.now }
 {

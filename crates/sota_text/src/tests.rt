@@ -6,7 +6,7 @@ use sota_units::NoMemory;
 use std::alloc::Global;
 use std::test::Fail;
 
-/// The lines, each behind its number.
+/// The lines, each after its number.
 fn show_lines(alloc: Global, text: &[u8]) -> Result<TextOut, NoMemory>
     requires { length text.now < 2 ^ 32 }
 {

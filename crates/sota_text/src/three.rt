@@ -12,7 +12,8 @@ pub fn three_fields<'a>(
     mut fields: Fields<'_>,
 ) -> Option<(&'a [u8], &'a [u8], &'a [u8])>
     requires { AreWithin line.now fields }
-    ensures { option_map (λ words. (words.0.now, words.1.now, words.2.now)) result ≡ three (map (bytes_of line.now) fields.entry) }
+    ensures { option_map (λ words. (words.0.now, words.1.now, words.2.now)) result
+        ≡ three (map (bytes_of line.now) fields.entry) }
 {
     let first = fields.next()?;
     let second = fields.next()?;
