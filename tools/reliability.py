@@ -35,6 +35,7 @@ from sota_files import (
     read_ids,
     read_text,
     run_tool,
+    tick_seconds,
 )
 
 BUILT = Path(__file__).resolve().parent.parent / "crates" / "sota" / "out" / "sota"
@@ -289,12 +290,6 @@ def picture_name(word: str) -> str:
     if not word.endswith((".png", ".svg")):
         raise argparse.ArgumentTypeError(f"'{word}' ends in neither .png nor .svg")
     return word
-
-
-def tick_seconds(word: str) -> float:
-    if not re.fullmatch(r"[0-9]{1,9}(\.[0-9]{1,9})?", word) or float(word) == 0:
-        raise argparse.ArgumentTypeError(f"'{word}' is no length of a tick in seconds")
-    return float(word)
 
 
 def arguments() -> argparse.ArgumentParser:

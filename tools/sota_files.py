@@ -369,7 +369,22 @@ class Clock:
 
     seconds: float | None = None
 
+    def amount(self, ticks: int) -> str:
+        return f"{ticks}" if self.seconds is None else f"{ticks * self.seconds:.10g}"
+
+    def unit(self) -> str:
+        return "ticks" if self.seconds is None else "s"
+
     def words(self, ticks: int) -> str:
-        if self.seconds is None:
-            return f"{ticks} ticks"
-        return f"{ticks * self.seconds:g} s"
+        return f"{self.amount(ticks)} {self.unit()}"
+
+    def span(self, low: int, high: int) -> str:
+        """From one time to another, or the one time that both are."""
+        return self.words(low) if low == high else f"{self.amount(low)} to {self.words(high)}"
+
+
+def tick_seconds(word: str) -> float:
+    """The length of a tick in seconds, for a command line."""
+    if not re.fullmatch(r"[0-9]{1,9}(\.[0-9]{1,9})?", word) or float(word) == 0:
+        raise argparse.ArgumentTypeError(f"'{word}' is no length of a tick in seconds")
+    return float(word)
