@@ -16,6 +16,7 @@ use smallvec::SmallVec;
 use sota_units::{Mass, NoMemory, Scale, Tick};
 use std::alloc::Global;
 use std::marker::Model;
+use std::mem;
 
 /// The chances of each time that an arc takes: pairs of a tick and a mass, in rising ticks. What
 /// the masses lack of the scale is the chance that a traversal never ends. Without a pair it never
@@ -129,6 +130,18 @@ impl Histogram {
         ensures { IfOk result (λ time. time ≡ self.now) }
     {
         Histogram::from_rising(alloc, self.pairs())
+    }
+
+    /// Puts another histogram in the place of this one, and hands this one back. It takes no
+    /// memory.
+    pub fn replace(&mut self, time: Histogram) -> Histogram
+        ensures old { result ≡ self.old }
+        ensures new { self.new ≡ time }
+        ensures valid { IsTime self.new }
+    {
+        Histogram {
+            pairs: mem::replace(&mut self.pairs, time.pairs),
+        }
     }
 
     /// The pairs, in rising ticks. There is at most one for each mass of the total.
