@@ -1,8 +1,8 @@
-use Rattle.std.proofs.Common.{ℕ, zero, suc, ◌≡◌, ◌≢◌, ◌+◌, ◌-◌, ◌<◌, ◌≤◌, List, [], ◌∷◌, get_or, Some, refl, sym, ◌∙◌, arith, ⊎_elim, subst}
+use Rattle.std.proofs.Common.{ℕ, zero, suc, true, false, ◌≡◌, ◌≢◌, ◌+◌, ◌-◌, ◌<◌, ◌≤◌, List, [], ◌∷◌, get_or, Some, refl, sym, ◌∙◌, arith, ⊎_elim, subst}
 use Rattle.std.specs.List.{All}
 use Rattle.std.proofs.lemmas.List.Elements.{All-head, All-tail}
-use Rattle.std.proofs.lemmas.Bool.{cases_eq, cases_lt}
-use Rattle.sota_hist.specs.Time.{RisesFrom, least_tick}
+use Rattle.std.proofs.lemmas.Bool.{cases_Bool, cases_eq, cases_lt}
+use Rattle.sota_hist.specs.Time.{RisesFrom, is_closed, least_tick}
 use Rattle.sota_network.specs.Network.{Net, IsNet, IsArc, arc_at}
 use Rattle.sota_network.specs.Grid.{weighed, plain_sum, best_sum, hi}
 use Rattle.sota_network.specs.Walks.{Walk, empty, step}
@@ -13,7 +13,7 @@ use Rattle.sota_network.proofs.Recursion.{arc-valid}
 use Rattle.sota_network.proofs.Outward.{hi-elsewhere}
 use Rattle.sota_network.proofs.Gap.{ceiling-le}
 
--- the first tick of a time is its least
+-- each tick is above the floor
 pub least-le : (floor : ℕ) (ps : List (ℕ × ℕ)) → RisesFrom floor ps → All (λ (p : ℕ × ℕ). floor < p.0) ps
 least-le floor [] r k d h = absurd (omega arith)
 least-le floor (p ∷ ps) r zero d h = r.0
@@ -41,6 +41,11 @@ weighed-zero v t (p ∷ ps) none =
     weighed-in v t p ps inside ∙ (rw (here, more) (omega arith)))
     (cases_lt t p.0)
 
+-- a closed arc is worth nothing
+weighed-closed : (v : ℕ → ℕ) (t : ℕ) (ps : List (ℕ × ℕ)) → is_closed ps ≡ true → weighed v t ps ≡ 0
+weighed-closed v t [] closed = refl
+weighed-closed v t (p ∷ ps) closed = cc
+
 module _ (net : Net) (valid : IsNet net) (dest : ℕ) where
   -- below every walk's sum the values are 0
   zero-below : (k i t : ℕ) → t < k → ((n : ℕ) → Walk net dest i dest n → t < n) → hi net dest i t ≡ 0
@@ -58,6 +63,9 @@ module _ (net : Net) (valid : IsNet net) (dest : ℕ) where
       let number : arc_at net (suc found.0) ≡ Some a = found.2 in
       let is : IsArc net a = arc-valid net valid (suc found.0) a number in
       let none : weighed (hi net dest a.head) t a.time ≡ 0 =
+      ⊎_elim
+      (λ (closed : is_closed a.time ≡ true). weighed-closed (hi net dest a.head) t a.time closed)
+      (λ (opened : is_closed a.time ≡ false).
       weighed-zero (hi net dest a.head) t a.time
       (λ m d inside le.
       let p : ℕ × ℕ = get_or a.time m d in
@@ -66,9 +74,12 @@ module _ (net : Net) (valid : IsNet net) (dest : ℕ) where
       zero-below k a.head (t - p.0) (omega arith)
       (λ n walk.
       let leaves : a.tail ≢ dest = λ e. off (sym found.3 ∙ e) in
-      let longer : Walk net dest i dest (least_tick a.time + n) = subst (λ (j : ℕ). Walk net dest j dest (least_tick a.time + n)) found.3 (step (suc found.0) a number leaves walk) in
+      let longer : Walk net dest i dest (least_tick a.time + n) =
+      subst (λ (j : ℕ). Walk net dest j dest (least_tick a.time + n)) found.3
+      (step (suc found.0) a number leaves opened walk) in
       let limit : t < least_tick a.time + n = far (least_tick a.time + n) longer in
-      omega arith)) in
+      omega arith)))
+      (cases_Bool (is_closed a.time)) in
       absurd (omega (arith, found.4, none)))
       (λ (nothing : best_sum net (hi net dest) i t ≤ 0).
       let small : ceiling_by net.scale (best_sum net (hi net dest) i t) ≤ 0 = ceiling-le net.scale (best_sum net (hi net dest) i t) 0 valid.scale (omega arith) in

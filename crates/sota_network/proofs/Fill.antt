@@ -5,7 +5,7 @@ use Rattle.std.proofs.lemmas.List.Elements.{All-weaker}
 use Rattle.sota_units.specs.Rounding.{ONE}
 use Rattle.sota_network.specs.Network.{Net, IsNet, IsArc}
 use Rattle.sota_network.specs.Grid.{plain_sum, best_of, best_sum, choice_of, value_from, lo, hi, choice}
-use Rattle.sota_network.specs.Plan.{in_table}
+use Rattle.sota_network.specs.GridView.{in_table}
 use Rattle.sota_network.specs.Bests.{table_sum, bests_of, no_best, rounded, settled, chosen}
 use Rattle.sota_network.specs.declared.network.Arc.{Arc}
 use Rattle.sota_network.specs.declared.plain.Best.{Best}

@@ -51,7 +51,8 @@ module _ (net : Net) (valid : IsNet net) (dest : ℕ) where
       (All-weaker (IsArc net) (λ a. plain_sum a f t ≤ plain_sum a h t + net.scale * g)
       (λ a v.
       let more : plain_sum a f t ≤ plain_sum a h t + total a.time * g = weighed-le (f a.head) (h a.head) g t 0 (λ u less. below a.head u less) a.time v.time in
-      rw v.total at more)
+      let most : total a.time * g ≤ net.scale * g = mul-le-mul_right g v.total in
+      omega arith)
       net.arcs valid.arcs)
 
   best-within : (f : ℕ → ℕ → ℕ) (m i t : ℕ) → ((j u : ℕ) → u < t → f j u ≤ m) → best_sum net f i t ≤ net.scale * m
@@ -60,7 +61,8 @@ module _ (net : Net) (valid : IsNet net) (dest : ℕ) where
       (All-weaker (IsArc net) (λ a. plain_sum a f t ≤ net.scale * m)
       (λ a v.
       let more : plain_sum a f t ≤ total a.time * m = weighed-bound (f a.head) m t 0 (λ u less. below a.head u less) a.time v.time in
-      rw v.total at more)
+      let most : total a.time * m ≤ net.scale * m = mul-le-mul_right m v.total in
+      omega arith)
       net.arcs valid.arcs)
 
   -- the two values are in order, differ by at most two units a tick, and are at most one whole

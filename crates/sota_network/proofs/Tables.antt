@@ -5,7 +5,7 @@ use Rattle.std.proofs.lemmas.Bool.{cases_lt}
 use Rattle.std.proofs.Math.Nat.{mul-le-mul_right}
 use Rattle.sota_hist.specs.Time.{IsTime, RisesFrom}
 use Rattle.sota_network.specs.Numbers.{listed}
-use Rattle.sota_network.specs.Plan.{place, in_table}
+use Rattle.sota_network.specs.GridView.{place, in_table}
 use Rattle.sota_network.proofs.Listed.{length-listed, listed-at}
 
 -- the table has an entry for each node at each budget below t, and it is the value of f

@@ -2,7 +2,7 @@
 use Rattle.std.specs.Prelude.{ℕ, ◌-◌, ◌==◌, List, slice_index_or, Option, None, if◌then◌else◌}
 use Rattle.sota_units.specs.Rounding.{ONE, floor_by, ceiling_by}
 use Rattle.sota_network.specs.Grid.{plain_sum, best_of, choice_of}
-use Rattle.sota_network.specs.Plan.{in_table}
+use Rattle.sota_network.specs.GridView.{in_table}
 use Rattle.sota_network.specs.Numbers.{listed}
 use Rattle.sota_network.specs.declared.network.Arc.{Arc}
 use Rattle.sota_network.specs.declared.plain.Best.{Best}

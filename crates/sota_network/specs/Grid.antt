@@ -8,10 +8,6 @@ use Rattle.sota_network.specs.Network.{Net}
 use Rattle.sota_network.specs.Numbers.{first_number}
 use Rattle.sota_network.specs.declared.network.Arc.{Arc}
 
--- the greatest budget that a grid is asked for
-abbrev pub BUDGET_LIMIT : ℕ
-BUDGET_LIMIT = 65535
-
 -- the sum of each mass times the value at the budget that its tick leaves, over the pairs within the budget: the others
 -- arrive late
 abbrev pub weighed : (ℕ → ℕ) → ℕ → List (ℕ × ℕ) → ℕ

@@ -3,7 +3,7 @@ pub mod Numbers
 pub mod Grid
 pub mod Trees
 pub mod Sound
-pub mod Plan
+pub mod GridView
 pub mod Bests
 pub mod Adjacency
 pub mod Walks

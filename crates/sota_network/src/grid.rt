@@ -1,6 +1,6 @@
 // The grid of a network towards one destination, as a table.
 ghost use Rattle.std.specs.Prelude.{◌≡◌, ◌≤◌};
-ghost use Rattle.sota_network.specs.Plan.{place, lower_at, upper_at, choice_at};
+ghost use Rattle.sota_network.specs.GridView.{place, lower_at, upper_at, choice_at};
 
 use crate::choice::Choice;
 use sota_units::{ArcId, Grain, NodeId};
@@ -19,9 +19,9 @@ pub struct Grid {
 
 impl Model for Grid {
     ghost use Rattle.std.specs.Prelude.{◌≡◌, ◌+◌, ◌*◌, length};
-    ghost use Rattle.sota_network.specs.Plan.{Plan};
+    ghost use Rattle.sota_network.specs.GridView.{GridView};
 
-    ghost Value = { Plan };
+    ghost Value = { GridView };
 
     ghost view = { λ a. record {
       nodes = a.nodes;

@@ -14,7 +14,7 @@ ghost use Rattle.sota_network.specs.Examples.{triangle, chain, chain_tree, fork,
 
 /// A network stays one when the time of an arc is replaced.
 pub fn edits_keep_networks()
-    ensures { (net : Net) (arc : ℕ) (time : List (ℕ × ℕ)) → IsNet net → IsTime time → total time ≡ net.scale → IsNet (replaced net arc time) }
+    ensures { (net : Net) (arc : ℕ) (time : List (ℕ × ℕ)) → IsNet net → IsTime time → total time ≤ net.scale → IsNet (replaced net arc time) }
 {}
 
 /// The values of the grid, and the tree of a rule, are what their recursion makes of those at

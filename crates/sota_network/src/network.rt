@@ -1,21 +1,20 @@
 // Networks and their views.
-ghost use Rattle.std.specs.Prelude.{ℕ, ◌≡◌, ◌≤◌, ◌==◌, ◌↔◌, List, length, map, IfErr, IfOk, IsSome, None, OnErr, OnOk, Option, Some};
-ghost use Rattle.std.specs.List.{All};
+ghost use Rattle.std.specs.Prelude.{ℕ, ◌≡◌, ◌≤◌, ◌==◌, ◌↔◌, List, length, IfErr, IfOk, IsSome, None, OnErr, OnOk, Option, Some};
 ghost use Rattle.std.specs.Option.{option_copied, option_map};
-ghost use Rattle.sota_units.specs.Rounding.{SCALE_LIMIT};
-ghost use Rattle.sota_hist.specs.Time.{IsTime, total};
-ghost use Rattle.sota_network.specs.Network.{Net, IsNet, IsNode, arc_at, replaced, NODE_LIMIT, ARC_LIMIT};
+ghost use Rattle.sota_units.specs.Limits.{NODE_LIMIT, ARC_LIMIT};
+ghost use Rattle.sota_hist.specs.Time.{total};
+ghost use Rattle.sota_network.specs.Network.{Net, IsNet, IsNode, arc_at, replaced};
 ghost use Rattle.sota_network.specs.Numbers.{numbers};
 
-use crate::adjacency::Adjacency;
+use crate::adjacency::{Adjacency, End};
 use sota_hist::Histogram;
 use sota_units::{ArcId, NoMemory, NodeId, Scale};
 use std::alloc::Global;
 use std::marker::Model;
-use std::mem;
 
 /// A one-way road from its tail to its head. A mass of its time is a chance over the network's
-/// scale.
+/// scale, and what the masses lack of the scale is the chance that a traversal never ends. A road
+/// whose time is closed is never passed.
 #[derive(Drop)]
 pub struct Arc {
     pub tail: NodeId,
@@ -53,7 +52,7 @@ impl Model for Network {
 
 impl Network {
     /// The network of its parts: nodes from 1 to 1,000,000, at most 4,000,000 arcs between them,
-    /// and each arc's masses sum to the scale. It takes time linear in nodes and arcs.
+    /// and each arc's masses sum to at most the scale. It takes time linear in nodes and arcs.
     pub fn build(
         alloc: Global,
         nodes: u32,
@@ -62,15 +61,12 @@ impl Network {
     ) -> Result<Network, NoMemory>
         requires nodes { (1 ≤ nodes) × (nodes ≤ NODE_LIMIT) }
         requires arcs { length arcs.items ≤ ARC_LIMIT }
-        requires tails { All (λ arc. (1 ≤ arc.tail) × (arc.tail ≤ nodes)) arcs.items }
-        requires heads { All (λ arc. (1 ≤ arc.head) × (arc.head ≤ nodes)) arcs.items }
-        requires totals { All (λ arc. total arc.time ≡ scale) arcs.items }
-        ensures { IfOk result (λ network. network ≡ record { nodes = nodes; scale = scale; arcs = arcs.items }) }
+        requires valid { IsNet (record { nodes = nodes; scale = scale; arcs = arcs.items }) }
+        ensures value { IfOk result (λ network. network ≡ record { nodes = nodes; scale = scale; arcs = arcs.items }) }
+        ensures valid { IfOk result (λ network. IsNet network) }
     {
-        let leaving = Adjacency::build(alloc, nodes, &tails(alloc, &arcs)?)?;
-        let entering = Adjacency::build(alloc, nodes, &heads(alloc, &arcs)?)?;
-        see_times(&arcs);
-        let _limit = scale.get();
+        let leaving = Adjacency::build(alloc, nodes, &arcs, End::Tail)?;
+        let entering = Adjacency::build(alloc, nodes, &arcs, End::Head)?;
         Ok(Network {
             nodes,
             scale,
@@ -84,6 +80,7 @@ impl Network {
     pub fn nodes(&self) -> u32
         ensures value { result ≡ self.now.nodes }
         ensures within { (1 ≤ self.now.nodes) × (self.now.nodes ≤ NODE_LIMIT) }
+        ensures valid { IsNet self.now }
     {
         self.nodes
     }
@@ -99,7 +96,7 @@ impl Network {
     /// The denominator of all masses.
     pub fn scale(&self) -> Scale
         ensures value { result ≡ self.now.scale }
-        ensures within { (1 ≤ self.now.scale) × (self.now.scale ≤ SCALE_LIMIT) }
+        ensures valid { IsNet self.now }
     {
         self.scale
     }
@@ -108,15 +105,18 @@ impl Network {
     pub fn arc(&self, arc: ArcId) -> Option<&Arc>
         ensures some { IsSome result ↔ ((1 ≤ arc) × (arc ≤ length self.now.arcs)) }
         ensures value { option_copied result ≡ arc_at self.now arc }
+        ensures valid { IsNet self.now }
     {
+        let arcs = self.arcs();
         let index = arc.get().checked_sub(1)?;
-        self.arcs.get(index as usize)
+        arcs.get(index as usize)
     }
 
     /// All arcs: number `e` stands at index `e - 1`.
     pub fn arcs(&self) -> &[Arc]
         ensures value { result.now ≡ self.now.arcs }
         ensures within { length result.now ≤ ARC_LIMIT }
+        ensures valid { IsNet self.now }
     {
         self.arcs.as_slice()
     }
@@ -140,49 +140,18 @@ impl Network {
     /// Gives an arc another time, and hands the one before back. NoArc exactly where the number is
     /// not from 1 to the number of arcs. It takes no memory.
     pub fn replace(&mut self, arc: ArcId, time: Histogram) -> Result<Histogram, NoArc>
-        requires total { total time ≡ self.old.scale }
+        requires total { total time ≤ self.old.scale }
         ensures old { IfOk result (λ old. option_map (λ arc. arc.time) (arc_at self.old arc) ≡ Some old) }
         ensures replaced { OnOk result (self.new ≡ replaced self.old arc time) }
         ensures no_arc { IfErr result (λ refused. arc_at self.old arc ≡ None) }
         ensures handed_back { IfErr result (λ refused. refused.time ≡ time) }
         ensures unchanged { OnErr result (self.new ≡ self.old) }
+        ensures valid { IsNet self.new }
     {
         let number = arc.get() as usize;
         if number == 0 || self.arcs.len() < number {
             return Err(NoArc { time });
         }
-        let _pairs = time.pairs();
-        let place = &mut self.arcs[number - 1];
-        Ok(mem::replace(&mut place.time, time))
-    }
-
-    /// What is true of every network.
-    pub fn is_valid(&self)
-        ensures { IsNet self.now }
-    {
-        let _arcs = &self.arcs;
-    }
-}
-
-/// The tails of arcs, in order.
-fn tails(alloc: Global, arcs: &[Arc]) -> Result<Vec<NodeId>, NoMemory>
-    ensures { IfOk result (λ ends. ends.items ≡ map (λ arc. arc.tail) arcs.now) }
-{
-    Ok(arcs.iter().map(|arc| arc.tail).collect(alloc)?)
-}
-
-/// The heads of arcs, in order.
-fn heads(alloc: Global, arcs: &[Arc]) -> Result<Vec<NodeId>, NoMemory>
-    ensures { IfOk result (λ ends. ends.items ≡ map (λ arc. arc.head) arcs.now) }
-{
-    Ok(arcs.iter().map(|arc| arc.head).collect(alloc)?)
-}
-
-/// The times of arcs rise, as every histogram's do.
-fn see_times(arcs: &[Arc])
-    ensures { All (λ arc. IsTime arc.time) arcs.now }
-{
-    for arc in arcs {
-        let _pairs = arc.time.pairs();
+        Ok(self.arcs[number - 1].time.replace(time))
     }
 }

@@ -1,12 +1,13 @@
-// The plain planner. It makes every entry from its definition, budget by budget, and is the slow partner of the others.
+// The plain planner. It makes every entry from its definition, budget by budget, and is the slow
+// partner of the others.
 ghost use Rattle.std.specs.Prelude.{ℕ, ◌≡◌, ◌+◌, ◌*◌, ◌≤◌, ◌==◌, ◌++◌, length, Option, None, IfOk, OnOk, if◌then◌else◌};
 ghost use Rattle.std.specs.List.{All};
-ghost use Rattle.sota_units.specs.Rounding.{ONE, SCALE_LIMIT};
+ghost use Rattle.sota_units.specs.Rounding.{ONE};
+ghost use Rattle.sota_units.specs.Limits.{NODE_LIMIT, BUDGET_LIMIT};
 ghost use Rattle.sota_hist.specs.Time.{IsTime, total};
-ghost use Rattle.sota_network.specs.Network.{IsNet, IsNode, NODE_LIMIT, ARC_LIMIT};
+ghost use Rattle.sota_network.specs.Network.{IsNet, IsNode};
 ghost use Rattle.sota_network.specs.Numbers.{listed};
-ghost use Rattle.sota_network.specs.Grid.{BUDGET_LIMIT};
-ghost use Rattle.sota_network.specs.Plan.{IsPlan};
+ghost use Rattle.sota_network.specs.GridView.{IsGrid};
 ghost use Rattle.sota_network.specs.Bests.{table_sum, bests_of, rounded, settled, chosen};
 
 use crate::choice::Choice;
@@ -15,8 +16,8 @@ use crate::network::{Arc, Network};
 use sota_units::{ArcId, Grain, Heft, NoMemory, NodeId, Scale};
 use std::alloc::Global;
 
-/// The grid of a network towards a node, at each budget from 0 up to the given one in ticks: at most 65,535. Its work is
-/// linear in the pairs of all arcs times the budget.
+/// The grid of a network towards a node, at each budget from 0 up to the given one in ticks: at most
+/// 65,535. Its work is linear in the pairs of all arcs times the budget.
 pub fn plain_grid(
     alloc: Global,
     network: &Network,
@@ -25,7 +26,7 @@ pub fn plain_grid(
 ) -> Result<Grid, NoMemory>
     requires dest { IsNode network.now dest }
     requires budget { budget ≤ BUDGET_LIMIT }
-    ensures { IfOk result (λ grid. IsPlan grid network.now dest budget) }
+    ensures { IfOk result (λ grid. IsGrid grid network.now dest budget) }
 {
     let nodes = network.nodes();
     let cells = (budget as usize + 1) * nodes as usize;
@@ -34,7 +35,6 @@ pub fn plain_grid(
     let mut choices = Vec::with_capacity(alloc, cells)?;
     let mut scratch = vec![in alloc; Best::NONE; nodes as usize]?;
     let bests = scratch.as_mut_slice();
-    network.is_valid();
     for time in 0..budget + 1 {
         push_row(network, dest, time, Rounding::Down, &mut lower, bests)?;
         push_choices(&mut choices, bests, dest)?;
@@ -49,7 +49,8 @@ pub fn plain_grid(
     })
 }
 
-/// The greatest plain sum among the arcs that leave a node, and the first arc that has it: none where it is 0.
+/// The greatest plain sum among the arcs that leave a node, and the first arc that has it: none where
+/// it is 0.
 #[derive(Clone, Copy)]
 struct Best {
     sum: Heft,
@@ -71,7 +72,8 @@ enum Rounding {
     Up,
 }
 
-/// Appends the values of all nodes at one budget to those at smaller budgets, and leaves in `bests` what they rest on.
+/// Appends the values of all nodes at one budget to those at smaller budgets, and leaves in `bests`
+/// what they rest on.
 fn push_row(
     network: &Network,
     dest: NodeId,
@@ -83,10 +85,10 @@ fn push_row(
     requires valid { IsNet network.now }
     requires full { length values.old.items ≡ budget * network.now.nodes }
     requires nodes { length bests.old ≡ network.now.nodes }
+    requires within { network.now.nodes ≤ NODE_LIMIT }
     ensures bests { bests.new ≡ bests_of network.now.nodes network.now.arcs (table_sum values.old.items network.now.nodes budget) }
     ensures values { OnOk result (values.new.items ≡ values.old.items ++ listed (settled rounding network.now.scale dest bests.new) network.now.nodes) }
 {
-    let _nodes = network.nodes();
     let scale = network.scale();
     find_bests(network, values, budget, bests);
     push_values(values, bests, dest, scale, rounding)
@@ -95,7 +97,6 @@ fn push_row(
 /// For each node the best arc at a budget, over a table of the values at smaller budgets.
 fn find_bests(network: &Network, values: &[Grain], budget: u32, bests: &mut [Best])
     requires valid { IsNet network.now }
-    requires scale { network.now.scale ≤ SCALE_LIMIT }
     requires full { length values.now ≡ budget * network.now.nodes }
     requires nodes { length bests.old ≡ network.now.nodes }
     ensures bests { bests.new ≡ bests_of network.now.nodes network.now.arcs (table_sum values.now network.now.nodes budget) }
@@ -119,7 +120,6 @@ fn find_bests(network: &Network, values: &[Grain], budget: u32, bests: &mut [Bes
 fn arc_sum(arc: &Arc, nodes: u32, values: &[Grain], budget: u32) -> Heft
     requires time { IsTime arc.now.time }
     requires head { (1 ≤ arc.now.head) × (arc.now.head ≤ nodes) }
-    requires scale { total arc.now.time ≤ SCALE_LIMIT }
     requires full { length values.now ≡ budget * nodes }
     ensures value { result ≡ table_sum values.now nodes budget arc.now }
     ensures within { result ≤ total arc.now.time * ONE }

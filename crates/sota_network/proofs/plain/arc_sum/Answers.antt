@@ -1,6 +1,6 @@
 -- Each pair within the budget adds its product to the sum. It reads an earlier row, since its tick is at least 1.
 use Rattle.std.proofs.Common.{ℕ, ◌≡◌, ◌-◌, ◌*◌, ◌<◌, ◌≤◌, length, arith, ap, sym, ◌∙◌}
-use Rattle.sota_network.specs.Plan.{in_table}
+use Rattle.sota_network.specs.GridView.{in_table}
 use Rattle.sota_network.proofs.Sums.{weighed-more_in, weighed-more_out, total-more}
 use Rattle.sota_network.proofs.Tables.{tick-positive, place-below, table-read}
 use Rattle.sota_network.proofs.plain.arc_sum.Goals as goal

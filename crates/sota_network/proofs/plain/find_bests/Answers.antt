@@ -5,7 +5,9 @@ use Rattle.std.specs.Ordering.{is_lt, nat_cmp}
 use Rattle.std.proofs.lemmas.Bool.Decides.{nat_tests}
 use Rattle.std.proofs.lemmas.List.{take_more, length-take-le, set-get_or}
 use Rattle.std.proofs.lemmas.List.Elements.{All-more}
+use Rattle.std.proofs.Math.Nat.{mul-le-mul_right}
 use Rattle.sota_units.specs.Rounding.{ONE}
+use Rattle.sota_hist.specs.Time.{total}
 use Rattle.sota_network.specs.Network.{Net, IsArc}
 use Rattle.sota_network.specs.Grid.{best_of, choice_of}
 use Rattle.sota_network.specs.Bests.{table_sum, bests_of, no_best}
@@ -52,7 +54,8 @@ loop-index-preserved c =
     let high : a.tail ≤ n = omega (arith, valid.tail.1, c.nodes-nodes.ensures.value) in
     let front : take (k + 1) arcs ≡ take k arcs ++ a ∷ [] = take_more arcs k a c.loop-index-test.true ∙ ap (λ (b : Arc). take k arcs ++ b ∷ []) (sym c.arc-item.is) in
     let count : length (take k arcs) ≡ k = length-take-le k arcs (omega arith) in
-    let bound : P a ≤ whole = rw (sym valid.total, sym c.arc_sum-sum.ensures.value) c.arc_sum-sum.ensures.within in
+    let most : total a.time * ONE ≤ whole = mul-le-mul_right ONE valid.total in
+    let bound : P a ≤ whole = omega (arith, c.arc_sum-sum.ensures.value, c.arc_sum-sum.ensures.within) in
     let within : All (λ (arc : Arc). P arc ≤ whole) (take (k + 1) arcs) =
     All-more (λ (arc : Arc). P arc ≤ whole) arcs k a c.loop-index-test.true c.loop-index.invariant.within (subst (λ (b : Arc). P b ≤ whole) c.arc-item.is bound) in
     let at : c.get.result - 1 ≡ a.tail - 1 = ap (λ (m : ℕ). m - 1) c.get.ensures in

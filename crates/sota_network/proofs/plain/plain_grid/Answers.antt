@@ -28,12 +28,12 @@ loop-time-preserved c =
     record {
       lower = rw (low-row, low-is)
           (filled-more 0 c.loop-time.lower.items n t (lo net c.args.dest) _ c.loop-time.invariant.lower
-          (lower-is net c.is_valid.ensures c.args.dest t c.loop-time.lower.items c.loop-time.invariant.lower));
+          (lower-is net c.nodes-nodes.ensures.valid c.args.dest t c.loop-time.lower.items c.loop-time.invariant.lower));
       upper = rw (high-row, high-is)
           (filled-more 0 c.loop-time.upper.items n t (hi net c.args.dest) _ c.loop-time.invariant.upper
-          (upper-is net c.is_valid.ensures c.args.dest t c.loop-time.upper.items c.loop-time.invariant.upper));
+          (upper-is net c.nodes-nodes.ensures.valid c.args.dest t c.loop-time.upper.items c.loop-time.invariant.upper));
       choices = rw (choices-row, low-is)
           (filled-more None c.loop-time.choices.items n t (choice net c.args.dest) _ c.loop-time.invariant.choices
-          (chosen-is net c.is_valid.ensures c.args.dest t c.loop-time.lower.items c.loop-time.invariant.lower));
+          (chosen-is net c.nodes-nodes.ensures.valid c.args.dest t c.loop-time.lower.items c.loop-time.invariant.lower));
       bests = ap length high-is ∙ length-bests n net.arcs (table_sum c.loop-time.upper.items n t);
     }
