@@ -1,13 +1,12 @@
 -- What a histogram is built of.
-use Rattle.std.proofs.Common.{ℕ, ◌≡◌, ◌<◌, ◌≤◌, Bool, true, false, cond, List, [], ◌∷◌, length, get_or, Option, None, Some, refl, sym, ◌∙◌, ap, subst, arith, ⊎_elim, ◌==◌, nat_lt, ◌&&◌}
+use Rattle.std.proofs.Common.{ℕ, ◌≡◌, ◌<◌, ◌≤◌, Bool, true, false, cond, List, [], ◌∷◌, length, get_or, Option, None, Some, refl, sym, ◌∙◌, ap, arith, ⊎_elim, ◌==◌, nat_lt, ◌&&◌}
 use Rattle.std.specs.List.{All, position, position_or_len}
 use Rattle.std.specs.List.Sorted.{IsPermutation, IsNonDecreasingBy}
-use Rattle.std.proofs.lemmas.Bool.{true≢false, cases_lt, cases_eq, eq-eqb, ne_eqb, lt-ltb, le-ltb, ltb-true, ltb-false, and_cases, eqb-false}
+use Rattle.std.proofs.lemmas.Bool.{true≢false, cases_lt, lt-ltb, le-ltb, ltb-true, ltb-false, and_cases, eqb-false}
 use Rattle.std.proofs.lemmas.Option.{none-some}
 use Rattle.std.proofs.lemmas.List.Elements.{All-filter, filter_passes}
 use Rattle.std.proofs.lemmas.List.Sums.{length-filter, count_by-le-length, fails_before_first, passes_at_first, position_or_len_is}
 use Rattle.std.proofs.lemmas.List.Sorted.{All-permutation, sum_by-IsPermutation}
-use Rattle.sota_units.specs.Rounding.{SCALE_LIMIT}
 use Rattle.sota_hist.specs.Time.{IsTime, total}
 use Rattle.sota_units.specs.Memory.{IsFault}
 use Rattle.sota_hist.specs.Build.{positive, time_of, zero_tick, repeated_tick, tick_fault, hist_fault, is_shortage}

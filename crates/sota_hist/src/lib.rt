@@ -6,6 +6,8 @@ mod fault;
 mod histogram;
 pub mod laws;
 mod sorted;
+#[cfg(test)]
+mod tests;
 
 pub use fault::HistFault;
 pub use histogram::Histogram;

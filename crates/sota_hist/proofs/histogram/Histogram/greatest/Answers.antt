@@ -1,4 +1,4 @@
-use Rattle.std.proofs.Common.{◌∙◌, ap, sym}
+use Rattle.std.proofs.Common.{◌∙◌, ap}
 use Rattle.sota_hist.specs.Time.{is_closed, greatest_tick}
 use Rattle.sota_hist.proofs.Ticks.{last_tick, some_from_open}
 use Rattle.sota_hist.proofs.histogram.Histogram.greatest.Goals as goal
