@@ -5,3 +5,4 @@ pub mod Picking
 pub mod Repeats
 pub mod Order
 pub mod Building
+pub mod Known

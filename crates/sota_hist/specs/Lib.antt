@@ -1,3 +1,4 @@
 pub mod Time
 pub mod Build
 pub mod Words
+pub mod Laws

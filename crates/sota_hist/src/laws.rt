@@ -2,6 +2,7 @@
 // theorems.
 ghost use Rattle.std.specs.Prelude.{ℕ, ◌≡◌, ◌≤◌, ◌-◌, List, None, length, slice_index_or};
 ghost use Rattle.sota_hist.specs.Time.{IsTime, total, within, greatest_tick};
+ghost use Rattle.sota_hist.specs.Laws.{RisingIsTime, TimeIsRising, RisingSums, SumsDecide};
 ghost use Rattle.sota_hist.specs.Build.{time_of, exact_fault, at_most_fault};
 
 /// Pairs in which nothing is wrong make a travel time, and its total is the scale, or at most the
@@ -19,4 +20,12 @@ pub fn times_rise()
     ensures last { (time : List (ℕ × ℕ)) (other : ℕ × ℕ) → IsTime time → 1 ≤ length time
         → (slice_index_or time (length time - 1) other).0 ≡ greatest_tick time }
     ensures within { (time : List (ℕ × ℕ)) (limit : ℕ) → IsTime time → IsTime (within limit time) }
+{}
+
+/// What the pairs by rising ticks are, and that a travel time is known by its pairs in any order.
+pub fn order_of_pairs()
+    ensures valid { RisingIsTime }
+    ensures done { TimeIsRising }
+    ensures sums { RisingSums }
+    ensures known { SumsDecide }
 {}

@@ -11,3 +11,4 @@ mod tests;
 
 pub use fault::HistFault;
 pub use histogram::Histogram;
+pub use sorted::total_of;
