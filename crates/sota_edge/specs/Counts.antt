@@ -1,5 +1,5 @@
--- Counts that stop at their last value, 2^64 - 1. A count that stands there is taken to have risen, since no program can
--- tell.
+-- Counts that stop at their last value, 2^64 - 1. A count that stands there is taken to have risen,
+-- since no program can tell.
 use Rattle.std.specs.Prelude.{ℕ, ◌+◌, ◌-◌, ◌^◌, ◌≤◌, min}
 
 -- so much more, or the last value

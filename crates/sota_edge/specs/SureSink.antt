@@ -9,4 +9,8 @@ pub record SureSinkState : Type 0 where
 
 -- the count of faults stands at 0, so that Failed, which raises it, is never answered
 abbrev pub sure_sink_state : SureSinkState → SinkState
-sure_sink_state sink = record { written = Some sink.text; faults = 0; shortages = sink.shortages }
+sure_sink_state sink = record {
+  written = Some sink.text;
+  faults = 0;
+  shortages = sink.shortages;
+}

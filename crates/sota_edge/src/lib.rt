@@ -1,5 +1,6 @@
-//! The outside as the rest of the program sees it: a desk of named files and a sink for the output, with forms of both in
-//! memory. An answer that tells of a fault comes only where a count of faults rose in that call.
+//! The outside as the rest of the program sees it: a desk of named files and a sink for the output,
+//! with forms of both in memory. A fault is answered only where a count of faults rose in that
+//! call.
 #![tactic(auto)]
 
 mod desk;

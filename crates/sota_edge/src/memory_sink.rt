@@ -1,5 +1,5 @@
 // A sink in memory whose puts fail as planned.
-ghost use Rattle.std.specs.Prelude.{◌≡◌, ◌≤◌, ◌⊎◌, [], length, min, IfOk, IsErrOf, IsTrue};
+ghost use Rattle.std.specs.Prelude.{◌≡◌, ◌≤◌, [], length, min, IfOk, OnErr, IsErrOf, IsTrue};
 ghost use Rattle.sota_edge.specs.Counts.{counted};
 ghost use Rattle.sota_edge.specs.Sink.{PutAnswer, SinkCause};
 ghost use Rattle.sota_edge.specs.MemoryDesk.{is_listed};
@@ -10,7 +10,8 @@ use crate::{Sink, SinkError, SureSink};
 use std::alloc::Global;
 use std::marker::Model;
 
-/// Takes at most `chunk` bytes at a time, and has a list of the puts that fail. It tells what was written.
+/// Takes at most `chunk` bytes at a time, and has a list of the puts that fail. What was written is
+/// known.
 #[derive(Drop)]
 pub struct MemorySink {
     sure: SureSink,
@@ -39,7 +40,14 @@ impl MemorySink {
     /// Nothing is written. `fails` lists the numbers of the puts that fail, counted from 1.
     pub fn new(alloc: Global, chunk: u32, fails: Vec<u32>) -> Self
         requires { 1 ≤ chunk }
-        ensures { result ≡ record { text = []; chunk = chunk; fails = fails.items; puts = 0; faults = 0; shortages = 0 } }
+        ensures { result ≡ record {
+          text = [];
+          chunk = chunk;
+          fails = fails.items;
+          puts = 0;
+          faults = 0;
+          shortages = 0;
+        } }
     {
         MemorySink {
             sure: SureSink::new(alloc),
@@ -62,15 +70,19 @@ impl Sink for MemorySink {
     ghost state = { memory_sink_state };
 
     fn put(&mut self, piece: &[u8]) -> Result<usize, SinkError>
-        ensures answer { PutAnswer result piece.now (memory_sink_state self.old) (memory_sink_state self.new) }
+        ensures answer { PutAnswer result piece.now
+            (memory_sink_state self.old) (memory_sink_state self.new) }
         ensures cause { SinkCause result (memory_sink_state self.old) (memory_sink_state self.new) }
 
-        // As many bytes as fit are taken.
+        // As many bytes as fit are taken, and none after an error.
         ensures most { IfOk result (λ count. count ≡ min self.old.chunk (length piece.now)) }
+        ensures none { OnErr result (self.new.text ≡ self.old.text) }
 
         // Only the puts that are listed fail, and each of them does.
-        ensures only_listed { IsErrOf result SinkError.Failed → IsTrue (is_listed self.old.fails self.new.puts) }
-        ensures listed { IsTrue (is_listed self.old.fails self.new.puts) → IsErrOf result SinkError.Failed }
+        ensures only_listed { IsErrOf result SinkError.Failed →
+            IsTrue (is_listed self.old.fails self.new.puts) }
+        ensures listed { IsTrue (is_listed self.old.fails self.new.puts) →
+            IsErrOf result SinkError.Failed }
         ensures puts { self.new.puts ≡ counted self.old.puts }
         ensures chunk { self.new.chunk ≡ self.old.chunk }
         ensures fails { self.new.fails ≡ self.old.fails }

@@ -1,5 +1,5 @@
 // A sink in memory that never fails.
-ghost use Rattle.std.specs.Prelude.{◌≡◌, [], length, IfOk};
+ghost use Rattle.std.specs.Prelude.{◌≡◌, [], length, IfOk, OnErr};
 ghost use Rattle.sota_edge.specs.Sink.{PutAnswer, SinkCause};
 ghost use Rattle.sota_edge.specs.SureSink.{SureSinkState, sure_sink_state};
 
@@ -7,7 +7,7 @@ use crate::{Sink, SinkError};
 use std::alloc::Global;
 use std::marker::Model;
 
-/// Takes whole pieces. It tells what was written, and it never answers Failed.
+/// Takes whole pieces. What was written is known, and it never answers Failed.
 #[derive(Drop)]
 pub struct SureSink {
     text: Vec<u8>,
@@ -43,9 +43,11 @@ impl Sink for SureSink {
     ghost state = { sure_sink_state };
 
     fn put(&mut self, piece: &[u8]) -> Result<usize, SinkError>
-        ensures answer { PutAnswer result piece.now (sure_sink_state self.old) (sure_sink_state self.new) }
+        ensures answer { PutAnswer result piece.now
+            (sure_sink_state self.old) (sure_sink_state self.new) }
         ensures cause { SinkCause result (sure_sink_state self.old) (sure_sink_state self.new) }
         ensures whole { IfOk result (λ count. count ≡ length piece.now) }
+        ensures none { OnErr result (self.new.text ≡ self.old.text) }
     {
         match self.text.extend_from_slice(piece) {
             Ok(()) => Ok(piece.len()),

@@ -54,7 +54,9 @@ fn a_sure_desk_never_fails(rt: HostRuntime) -> Result<(), Fail> {
     Ok(())
 }
 
-/// Whether putting `abcde` answers so, at most `chunk` bytes at a time, and leaves this written. One put fails.
+/// Whether putting `abcde` answers so, at most `chunk` bytes at a time, and leaves this written.
+/// One put fails.
+/// put fails.
 fn puts(
     alloc: Global,
     chunk: u32,
