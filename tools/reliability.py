@@ -30,6 +30,7 @@ from sota_files import (
     WrongUse,
     at,
     exact,
+    keep_inputs,
     number_from,
     percent,
     read_ids,
@@ -45,7 +46,7 @@ CAUSES = {
     "Number": "not a number where one must stand",
     "ZeroTick": "a time of 0 ticks",
     "RepeatedTick": "the same tick twice",
-    "Sum": "masses that do not sum to what the network has for a road",
+    "Sum": "masses that do not fit the Q of the network",
     "NoArc": "no such arc",
     "NoOrigin": "no such node to start from",
     "NoDest": "no such node to arrive at",
@@ -352,6 +353,8 @@ def show(given: argparse.Namespace) -> None:
     """Asks, and shows what came of it."""
     if given.low > given.high:
         raise WrongUse("LOW is greater than HIGH")
+    inputs = [given.graph, given.histograms, given.edits, given.ids]
+    keep_inputs([given.script, given.picture], inputs)
     ids, clock = read_ids(given.ids), Clock(given.tick)
     trip = Trip(
         given.sota,

@@ -38,6 +38,8 @@ from sota_files import (
     BadData,
     Road,
     at,
+    keep_inputs,
+    network_files,
     number_from,
     run_tool,
     write_network,
@@ -229,6 +231,7 @@ def main(words: Sequence[str] | None = None) -> int:
     given = arguments().parse_args(words)
 
     def make() -> None:
+        keep_inputs(network_files(given.prefix), [given.net, given.routes, given.edgedata])
         by_name = read_roads(given.net, given.kind, given.tick)
         if given.routes:
             take_routes(by_name, given.routes, given.net, given.tick)

@@ -17,6 +17,7 @@ import argparse
 import re
 import sys
 from fractions import Fraction
+from functools import lru_cache
 from pathlib import Path
 from typing import Sequence
 
@@ -28,6 +29,8 @@ from sota_files import (
     Road,
     at,
     first_record,
+    keep_inputs,
+    network_files,
     number_from,
     read_records,
     run_tool,
@@ -64,43 +67,34 @@ def ticks(time: Fraction, tick: Fraction) -> int:
 
 
 class Reader:
-    """Takes the records of a file of trips one by one, and remembers what is wrong with them."""
+    """Counts the trips of a file one by one."""
 
-    def __init__(self, path: str, tick: Fraction) -> None:
-        self.path = path
-        self.tick = tick
+    def __init__(self, tick: Fraction) -> None:
         self.roads: dict[str, Road] = {}
-        self.seen_at: dict[str, int] = {}
-        self.faults: list[str] = []
+        self.first_line: dict[str, int] = {}
+        self.ticks = lru_cache(maxsize=1 << 16)(lambda word: ticks(seconds(word), tick))
 
-    def take(self, line: int, fields: dict[str, str]) -> None:
-        """Counts one trip, or notes why it cannot be counted."""
-        fault = self.fault(line, fields)
-        if fault:
-            self.faults.append(at(self.path, line, fault))
-            return
-        name = fields["road"]
-        road = self.roads.setdefault(name, Road(name, fields["from"], fields["to"]))
-        self.seen_at.setdefault(name, line)
-        road.times[ticks(seconds(fields["seconds"]), self.tick)] += 1
-
-    def fault(self, line: int, fields: dict[str, str]) -> str:
-        """What is wrong with a trip, or nothing."""
-        for column in COLUMNS:
-            if not fields[column]:
-                return f"the column '{column}' is empty"
+    def take(self, line: int, trip: Sequence[str]) -> str:
+        """Counts one trip; answers why it cannot be counted, or nothing."""
+        if "" in trip:
+            return f"the column '{COLUMNS[trip.index('')]}' is empty"
+        name, tail, head, time = trip
         try:
-            time = seconds(fields["seconds"])
+            taken = self.ticks(time)
         except ValueError:
-            return f"'{fields['seconds']}' is no number of seconds (such as 48 or 48.5)"
-        if ticks(time, self.tick) > NUMBER_LIMIT:
-            return f"{fields['seconds']} seconds are more than {NUMBER_LIMIT} ticks"
-        known = self.roads.get(fields["road"])
-        if known and (known.tail, known.head) != (fields["from"], fields["to"]):
+            return f"'{time}' is no number of seconds (such as 48 or 48.5)"
+        if taken > NUMBER_LIMIT:
+            return f"{time} seconds are more than {NUMBER_LIMIT} ticks"
+        if name not in self.roads:
+            self.roads[name] = Road(name, tail, head)
+            self.first_line[name] = line
+        road = self.roads[name]
+        if (road.tail, road.head) != (tail, head):
             return (
-                f"road {known.name} goes from {fields['from']} to {fields['to']} here, "
-                f"but from {known.tail} to {known.head} on line {self.seen_at[known.name]}"
+                f"road {name} goes from {tail} to {head} here, "
+                f"but from {road.tail} to {road.head} on line {self.first_line[name]}"
             )
+        road.times[taken] += 1
         return ""
 
 
@@ -111,17 +105,20 @@ def read_trips(path: str, tick: Fraction) -> list[Road]:
     missing = [column for column in COLUMNS if header.count(column) != 1]
     if missing:
         raise BadData(at(path, line, f"the header does not name once: {', '.join(missing)}"))
-    reader = Reader(path, tick)
+    places = [header.index(column) for column in COLUMNS]
+    reader = Reader(tick)
+    faults = []
     for line, fields in records:
         if len(fields) == len(header):
-            reader.take(line, dict(zip(header, fields)))
+            fault = reader.take(line, [fields[place] for place in places])
         else:
-            words = f"{len(fields)} fields, but the header has {len(header)}"
-            reader.faults.append(at(path, line, words))
-    more = len(reader.faults) - SHOWN
-    if reader.faults:
-        tail = [f"{path}: and {more} more such lines"] if more > 0 else []
-        raise BadData(*reader.faults[:SHOWN], *tail, "nothing was written")
+            fault = f"{len(fields)} fields, but the header has {len(header)}"
+        if fault:
+            faults.append(at(path, line, fault))
+    if faults:
+        more = len(faults) - SHOWN
+        rest = [f"{path}: and {more} more such lines"] if more > 0 else []
+        raise BadData(*faults[:SHOWN], *rest, "nothing was written")
     return list(reader.roads.values())
 
 
@@ -168,6 +165,7 @@ def main(words: Sequence[str] | None = None) -> int:
     given = arguments().parse_args(words)
 
     def make() -> None:
+        keep_inputs(network_files(given.prefix), [given.trips])
         roads = read_trips(given.trips, given.tick)
         tick = f"{float(given.tick):g}"
         about = f"made of the observed trips in {Path(given.trips).name}; 1 tick = {tick} s"

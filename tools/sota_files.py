@@ -62,6 +62,15 @@ def run_tool(tool: Callable[[], None]) -> int:
     return 0
 
 
+def keep_inputs(outputs: Sequence[str | None], inputs: Sequence[str | None]) -> None:
+    """Refuses to write over a file that is read. None stands for a file that is not named."""
+    for output in filter(None, outputs):
+        for source in filter(None, inputs):
+            if os.path.exists(output) and os.path.exists(source):
+                if os.path.samefile(output, source):
+                    raise WrongUse(f"{output} would be written over {source}, which is read")
+
+
 def number_from(least: int, most: int) -> Callable[[str], int]:
     """A reader of a whole number within limits, for a command line."""
 
@@ -164,6 +173,11 @@ class Made:
     remarks: list[str]
 
 
+def network_files(prefix: str) -> list[str]:
+    """The graph, the histograms and the table of ids of a network that is made."""
+    return [f"{prefix}.gr", f"{prefix}.csv", f"{prefix}.ids.csv"]
+
+
 def write_network(roads: list[Road], prefix: str, scale: int, few: int, about: str) -> Made:
     """Writes PREFIX.gr, PREFIX.csv and PREFIX.ids.csv."""
     roads = sorted(roads, key=lambda road: id_order(road.name))
@@ -186,9 +200,10 @@ def write_network(roads: list[Road], prefix: str, scale: int, few: int, about: s
         gone = sum(mass == 0 for _, mass in pairs)
         if gone:
             lost.append(f"road {road.name}: {gone} observed times have no mass at Q {scale}")
-    write_lines(f"{prefix}.gr", graph)
-    write_lines(f"{prefix}.csv", times)
-    write_ids(f"{prefix}.ids.csv", places, roads)
+    graph_file, times_file, ids_file = network_files(prefix)
+    write_lines(graph_file, graph)
+    write_lines(times_file, times)
+    write_ids(ids_file, places, roads)
     return Made(len(places), len(roads), few_remarks(roads, few) + lost)
 
 

@@ -1,8 +1,9 @@
 #!/usr/bin/env python3
 """A small planner in whole numbers, by the definition of the grid: what the tests compare with.
 
-Run as a program it answers `run GRAPH HISTS SCRIPT` as sota does, for the lines ask, edit and
-close. It plans the plain way and is slow; it is here to be believed, not to be used.
+Run as a program it answers `run GRAPH HISTS SCRIPT` as sota does, for the lines ask, edit, close,
+policy and bracket; lines are taken to be well formed. It plans the plain way and is slow; it is
+here to be believed, not to be used.
 """
 from __future__ import annotations
 
@@ -119,6 +120,9 @@ def bracket_bytes(network: Network, origin: int, dest: int, budget: int) -> byte
     return data
 
 
+WRITERS = {"policy": policy_bytes, "bracket": bracket_bytes}
+
+
 class Session:
     """A network that is asked and edited, one line at a time."""
 
@@ -129,6 +133,10 @@ class Session:
     def reply(self, line: int, fields: list[str]) -> str:
         if fields[0] == "ask":
             return self.ask(line, *map(int, fields[1:4]))
+        if fields[0] in WRITERS:
+            data = WRITERS[fields[0]](self.network, *map(int, fields[1:4]))
+            Path(fields[4]).write_bytes(data)
+            return f"stored {fields[4]}"
         arc = int(fields[1])
         if not 1 <= arc <= len(self.network.arcs):
             return f"refused {line} NoArc"

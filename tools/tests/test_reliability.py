@@ -59,7 +59,7 @@ To be 90 % sure, allow 405 s.
         edits = self.file("e", "# \nedit 2 9:3000000\nedit 77 1:1\n")
         status, out, err = self.town(60, 61, "--edits", edits)
         self.assertEqual((status, out), (1, ""))
-        sums = "masses that do not sum to what the network has for a road (Sum)"
+        sums = "masses that do not fit the Q of the network (Sum)"
         self.assertEqual(err, f"{edits}:2: {sums}\n{edits}:3: no such arc (NoArc)\n")
         _, _, err = self.show(*TOWN, 1, 99, 5, 6)
         self.assertEqual(err, "the ask from 1 to 99: no such node to arrive at (NoDest)\n")

@@ -100,6 +100,12 @@ class Trips(ToolCase):
         status, _, err = self.run_tool(roads_from_trips.main, self.folder / "none.csv", "net")
         self.assertEqual((status, err), (1, f"{self.folder}/none.csv: No such file or directory\n"))
 
+    def test_the_trips_are_not_written_over(self) -> None:
+        trips = self.file("town.csv", SMALL)
+        status, _, err = self.run_tool(roads_from_trips.main, trips, self.folder / "town")
+        self.assertEqual((status, (self.folder / "town.csv").read_text()), (2, SMALL))
+        self.assertIn(f"{trips} would be written over {trips}, which is read", err)
+
     def test_times_that_lose_their_mass_are_told(self) -> None:
         status, _, err = self.make(SMALL, "--scale", 2, "--few", 0)
         self.assertEqual((status, err), (0, "road r2: 1 observed times have no mass at Q 2\n"))
