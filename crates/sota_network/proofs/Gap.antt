@@ -1,15 +1,18 @@
 -- The lower and the upper value are in order, differ by at most two units a tick, and are at most one whole.
-use Rattle.std.proofs.Common.{ℕ, zero, suc, ◌≡◌, ◌+◌, ◌-◌, ◌*◌, ◌/◌, ◌%◌, ◌<◌, ◌≤◌, arith, ⊎_elim}
+use Rattle.std.proofs.Common.{ℕ, zero, suc, ◌≡◌, ◌+◌, ◌-◌, ◌*◌, ◌/◌, ◌%◌, ◌<◌, ◌≤◌, Option, arith, ⊎_elim}
 use Rattle.std.proofs.lemmas.List.Elements.{All-weaker}
 use Rattle.std.proofs.lemmas.Bool.{cases_eq, cases_lt}
 use Rattle.std.proofs.Math.Nat.{mul-le-mul_right, div-add-mod, mod-lt}
 use Rattle.sota_hist.specs.Time.{total}
 use Rattle.sota_network.specs.Network.{Net, IsNet, IsArc}
 use Rattle.sota_network.specs.Grid.{plain_sum, best_sum, lo, hi}
+use Rattle.sota_network.specs.Sound.{Sound}
+use Rattle.sota_network.specs.declared.network.Arc.{Arc}
 use Rattle.sota_units.specs.Rounding.{ONE, floor_by, ceiling_by}
 use Rattle.sota_network.proofs.Sums.{weighed-le, weighed-bound}
 use Rattle.sota_network.proofs.Best.{best-le, best-bound}
-use Rattle.sota_network.proofs.Outward.{lo-at_dest, lo-elsewhere, hi-at_dest, hi-elsewhere}
+use Rattle.sota_network.proofs.Recursion.{arc-valid}
+use Rattle.sota_network.proofs.Outward.{cancel, lo-at_dest, lo-elsewhere, hi-at_dest, hi-elsewhere}
 
 -- a quotient is below each bound whose multiple is above the number
 pub quotient-le : (q x n : ℕ) → 1 ≤ q → x < (n + 1) * q → x / q ≤ n
@@ -111,3 +114,27 @@ module _ (net : Net) (valid : IsNet net) (dest : ℕ) where
 
   pub near : (i t : ℕ) → Near i t
   near i t = near-below (suc t) i t (omega arith)
+
+-- values that a rule keeps up are at most one whole
+module _ (net : Net) (valid : IsNet net) (dest : ℕ) (v : ℕ → ℕ → ℕ) (rule : ℕ → ℕ → Option ℕ) (sound : Sound net dest v rule) where
+  whole-below : (k i t : ℕ) → t < k → v i t ≤ ONE
+  whole-below zero i t h = absurd (omega arith)
+  whole-below (suc k) i t h =
+      ⊎_elim
+      (λ (at : i ≡ dest). rw at (sound.at_dest t))
+      (λ (off : i ≡ dest → ⊥).
+      ⊎_elim
+      (λ (positive : 0 < v i t).
+      let found = sound.elsewhere i t off positive in
+      let a : Arc = found.1 in
+      let is : IsArc net a = arc-valid net valid found.0 a found.3 in
+      let sum : plain_sum a v t ≤ total a.time * ONE =
+      weighed-bound (v a.head) ONE t 0 (λ u less. whole-below k a.head u (omega arith)) a.time is.time in
+      let most : total a.time * ONE ≤ net.scale * ONE = mul-le-mul_right ONE is.total in
+      cancel net.scale (v i t) ONE valid.scale (omega (arith, found.5)))
+      (λ (none : v i t ≤ 0). omega arith)
+      (cases_lt 0 (v i t)))
+      (cases_eq i dest)
+
+  pub sound-whole : (i t : ℕ) → v i t ≤ ONE
+  sound-whole i t = whole-below (suc t) i t (omega arith)

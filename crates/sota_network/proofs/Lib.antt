@@ -15,3 +15,4 @@ pub mod Replaced
 pub mod Reaching
 pub mod Below
 pub mod Cells
+pub mod Walking

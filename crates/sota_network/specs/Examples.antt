@@ -55,3 +55,15 @@ twins = record {
   scale = 1;
   arcs = record { tail = 1; head = 2; time = (5, 1) ∷ [] } ∷ record { tail = 1; head = 2; time = (5, 1) ∷ [] } ∷ [];
 }
+
+-- a bridge that is passed in 5 ticks with the chance 3/4, and else never
+abbrev pub bridge : Net
+bridge = record {
+  nodes = 2;
+  scale = 4;
+  arcs = record { tail = 1; head = 2; time = (5, 3) ∷ [] } ∷ [];
+}
+
+-- a road that is closed
+abbrev pub barrier : Net
+barrier = record { nodes = 2; scale = 4; arcs = record { tail = 1; head = 2; time = [] } ∷ [] }

@@ -8,5 +8,6 @@ pub mod Bests
 pub mod Adjacency
 pub mod Walks
 pub mod Reach
+pub mod Reads
 pub mod Region
 pub mod Examples

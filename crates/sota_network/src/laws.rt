@@ -1,86 +1,160 @@
 // What is true of the definitions themselves. The functions do nothing: their contracts are the
 // theorems.
-ghost use Rattle.std.specs.Prelude.{ℕ, ◌≡◌, ◌≢◌, ◌+◌, ◌*◌, ◌^◌, ◌≤◌, List, Bool, true, false, Option, Some, None};
+ghost use Rattle.std.specs.Prelude.{ℕ, ◌≡◌, ◌≢◌, ◌+◌, ◌-◌, ◌*◌, ◌^◌, ◌≤◌, ◌⊎◌, List, length};
+ghost use Rattle.std.specs.Prelude.{slice_index_or, Bool, true, false, Option, Some, None};
+ghost use Rattle.std.specs.List.{All};
 ghost use Rattle.sota_units.specs.Rounding.{ONE, floor_by, ceiling_by};
 ghost use Rattle.sota_hist.specs.Time.{IsTime, total};
-ghost use Rattle.sota_network.specs.Network.{Net, IsNet, replaced};
+ghost use Rattle.sota_network.specs.declared.network.Arc.{Arc};
+ghost use Rattle.sota_network.specs.Network.{Net, IsNet, IsArc, arc_at, replaced};
+ghost use Rattle.sota_network.specs.Numbers.{listed};
 ghost use Rattle.sota_network.specs.Grid.{lo, hi, choice, value_from};
 ghost use Rattle.sota_network.specs.Trees.{Encloses, Fits, follow, follow_step, score};
 ghost use Rattle.sota_network.specs.Sound.{Sound};
 ghost use Rattle.sota_network.specs.Walks.{Walk, IsLeastTime};
 ghost use Rattle.sota_network.specs.Reach.{reaches, in_region};
-ghost use Rattle.sota_network.specs.Region.{pairs_at, need, table_cells, broad_cells, is_between, pairs_between, need_between};
-ghost use Rattle.sota_network.specs.Examples.{triangle, chain, chain_tree, fork, late_route, certain_route, twins};
+ghost use Rattle.sota_network.specs.Reads.{Reads};
+ghost use Rattle.sota_network.specs.Region.{pairs_at, need, table_cells, broad_cells};
+ghost use Rattle.sota_network.specs.Region.{is_between, pairs_between, need_between};
+ghost use Rattle.sota_network.specs.Examples.{triangle, chain, chain_tree, fork, late_route};
+ghost use Rattle.sota_network.specs.Examples.{certain_route, twins, bridge, barrier};
 
-/// A network stays one when the time of an arc is replaced.
+/// A network stays one when the time of an arc is replaced, also by a closed one.
 pub fn edits_keep_networks()
-    ensures { (net : Net) (arc : ℕ) (time : List (ℕ × ℕ)) → IsNet net → IsTime time → total time ≤ net.scale → IsNet (replaced net arc time) }
+    ensures { (net : Net) (arc : ℕ) (time : List (ℕ × ℕ)) → IsNet net → IsTime time
+        → total time ≤ net.scale → IsNet (replaced net arc time) }
+{}
+
+/// What has a number in a network is one of its arcs.
+pub fn arcs_by_number()
+    ensures { (net : Net) (number : ℕ) (arc : Arc) → IsNet net → arc_at net number ≡ Some arc
+        → IsArc net arc }
+{}
+
+/// A list of the values of a function, by number.
+pub fn lists_by_number()
+    ensures count { (f : ℕ → ℕ) (n : ℕ) → length (listed f n) ≡ n }
+    ensures entry { (f : ℕ → ℕ) (n i other : ℕ) → 1 ≤ i → i ≤ n
+        → slice_index_or (listed f n) (i - 1) other ≡ f i }
+    ensures agree { (f g : ℕ → ℕ) (n : ℕ) → ((i : ℕ) → 1 ≤ i → i ≤ n → f i ≡ g i)
+        → listed f n ≡ listed g n }
+    ensures within { (f : ℕ → ℕ) (n most : ℕ) → ((i : ℕ) → f i ≤ most)
+        → All (λ x. x ≤ most) (listed f n) }
 {}
 
 /// The values of the grid, and the tree of a rule, are what their recursion makes of those at
 /// smaller budgets.
 pub fn grid_recurs()
-    ensures lower { (net : Net) (dest i t : ℕ) → IsNet net → lo net dest i t ≡ value_from floor_by net dest (lo net dest) i t }
-    ensures upper { (net : Net) (dest i t : ℕ) → IsNet net → hi net dest i t ≡ value_from ceiling_by net dest (hi net dest) i t }
-    ensures tree { (net : Net) (rule : ℕ → ℕ → Option ℕ) (dest i t : ℕ) → IsNet net → follow net rule dest i t ≡ follow_step net rule dest (follow net rule dest) i t }
+    ensures lower { (net : Net) (dest i t : ℕ) → IsNet net
+        → lo net dest i t ≡ value_from floor_by net dest (lo net dest) i t }
+    ensures upper { (net : Net) (dest i t : ℕ) → IsNet net
+        → hi net dest i t ≡ value_from ceiling_by net dest (hi net dest) i t }
+    ensures tree { (net : Net) (rule : ℕ → ℕ → Option ℕ) (dest i t : ℕ) → IsNet net
+        → follow net rule dest i t ≡ follow_step net rule dest (follow net rule dest) i t }
 {}
 
 /// The two values of the grid enclose the greatest on-time probability of all decision trees, the
-/// tree of the choices attains the lower one, and the two differ by at most two units a tick. A
-/// rule attains all values that it keeps up.
+/// tree of the choices attains the lower one, and the two differ by at most two units a tick.
 pub fn grid_encloses()
-    ensures encloses { (net : Net) (dest i t : ℕ) → IsNet net → Encloses net dest i t (lo net dest i t) (hi net dest i t) }
-    ensures fits { (net : Net) (rule : ℕ → ℕ → Option ℕ) (dest i t : ℕ) → IsNet net → Fits net i (follow net rule dest i t) }
-    ensures attains { (net : Net) (dest i t : ℕ) → IsNet net → lo net dest i t * net.scale ^ t ≤ ONE * score net dest i t (follow net (choice net dest) dest i t) }
-    ensures sound { (net : Net) (dest : ℕ) (values : ℕ → ℕ → ℕ) (rule : ℕ → ℕ → Option ℕ) → IsNet net → Sound net dest values rule → (i t : ℕ) → values i t * net.scale ^ t ≤ ONE * score net dest i t (follow net rule dest i t) }
+    ensures encloses { (net : Net) (dest i t : ℕ) → IsNet net
+        → Encloses net dest i t (lo net dest i t) (hi net dest i t) }
+    ensures fits { (net : Net) (rule : ℕ → ℕ → Option ℕ) (dest i t : ℕ) → IsNet net
+        → Fits net i (follow net rule dest i t) }
+    ensures attains { (net : Net) (dest i t : ℕ) → IsNet net
+        → lo net dest i t * net.scale ^ t
+        ≤ ONE * score net dest i t (follow net (choice net dest) dest i t) }
     ensures order { (net : Net) (dest i t : ℕ) → IsNet net → lo net dest i t ≤ hi net dest i t }
-    ensures gap { (net : Net) (dest i t : ℕ) → IsNet net → hi net dest i t ≤ lo net dest i t + 2 * t }
+    ensures gap { (net : Net) (dest i t : ℕ) → IsNet net
+        → hi net dest i t ≤ lo net dest i t + 2 * t }
     ensures whole { (net : Net) (dest i t : ℕ) → IsNet net → hi net dest i t ≤ ONE }
+{}
+
+/// A rule attains all values that it keeps up, and none of these exceeds one whole.
+pub fn sound_values()
+    ensures attained { (net : Net) (dest : ℕ) (values : ℕ → ℕ → ℕ) (rule : ℕ → ℕ → Option ℕ)
+        → IsNet net → Sound net dest values rule → (i t : ℕ)
+        → values i t * net.scale ^ t ≤ ONE * score net dest i t (follow net rule dest i t) }
+    ensures whole { (net : Net) (dest : ℕ) (values : ℕ → ℕ → ℕ) (rule : ℕ → ℕ → Option ℕ)
+        → IsNet net → Sound net dest values rule → (i t : ℕ) → values i t ≤ ONE }
 {}
 
 /// A node reaches another within a number of ticks exactly where the least ticks of some walk sum
 /// to no more. Where the destination is not reached the grid's values are 0.
 pub fn reaches_by_walks()
-    ensures walk { (net : Net) (dest i j t : ℕ) → IsNet net → reaches net dest j i t ≡ true → (n : ℕ) × Walk net dest i j n × (n ≤ t) }
-    ensures reach { (net : Net) (dest i j t n : ℕ) → IsNet net → Walk net dest i j n → n ≤ t → reaches net dest j i t ≡ true }
-    ensures below { (net : Net) (dest i t : ℕ) → IsNet net → reaches net dest dest i t ≡ false → hi net dest i t ≡ 0 }
+    ensures walk { (net : Net) (dest i j t : ℕ) → IsNet net → reaches net dest j i t ≡ true
+        → (n : ℕ) × Walk net dest i j n × (n ≤ t) }
+    ensures reach { (net : Net) (dest i j t n : ℕ) → IsNet net → Walk net dest i j n → n ≤ t
+        → reaches net dest j i t ≡ true }
+    ensures below { (net : Net) (dest i t : ℕ) → IsNet net → reaches net dest dest i t ≡ false
+        → hi net dest i t ≡ 0 }
 {}
 
 /// Which budgets a node other than the destination has in the region of an ask, how many they are
 /// and its need, by its least times to the destination and from the origin. The destination has
 /// none.
 pub fn region_by_least_times()
-    ensures inside { (net : Net) (origin dest last i t : ℕ) (to from : Option ℕ) → IsNet net → i ≢ dest → IsLeastTime net dest i dest to → IsLeastTime net dest origin i from
+    ensures inside { (net : Net) (origin dest last i t : ℕ) (to from : Option ℕ) → IsNet net
+        → i ≢ dest → IsLeastTime net dest i dest to → IsLeastTime net dest origin i from
         → in_region net origin dest last i t ≡ is_between last to from t }
-    ensures pairs { (net : Net) (origin dest last i : ℕ) (to from : Option ℕ) → IsNet net → i ≢ dest → IsLeastTime net dest i dest to → IsLeastTime net dest origin i from
+    ensures pairs { (net : Net) (origin dest last i : ℕ) (to from : Option ℕ) → IsNet net
+        → i ≢ dest → IsLeastTime net dest i dest to → IsLeastTime net dest origin i from
         → pairs_at net origin dest last i ≡ pairs_between last to from }
-    ensures needs { (net : Net) (origin dest last i : ℕ) (to from : Option ℕ) → IsNet net → i ≢ dest → IsLeastTime net dest i dest to → IsLeastTime net dest origin i from
+    ensures needs { (net : Net) (origin dest last i : ℕ) (to from : Option ℕ) → IsNet net
+        → i ≢ dest → IsLeastTime net dest i dest to → IsLeastTime net dest origin i from
         → need net origin dest last i ≡ need_between last to from }
-    ensures dest_pairs { (net : Net) (origin dest last : ℕ) → pairs_at net origin dest last dest ≡ 0 }
+    ensures dest_pairs { (net : Net) (origin dest last : ℕ)
+        → pairs_at net origin dest last dest ≡ 0 }
     ensures dest_need { (net : Net) (origin dest last : ℕ) → need net origin dest last dest ≡ 0 }
+{}
+
+/// The region of an ask is enough: its entries read the region, the destination, and budgets below
+/// the least time of a node, where all values are 0.
+pub fn region_closes()
+    ensures { (net : Net) (origin dest last i t j u : ℕ) → IsNet net
+        → in_region net origin dest last i t ≡ true → Reads net i t j u
+        → (j ≡ dest)
+        ⊎ ((in_region net origin dest last j u ≡ true) ⊎ (reaches net dest dest j u ≡ false)) }
 {}
 
 /// The definitions, computed on small networks.
 pub fn worked_examples()
-    ensures triangle_too_late { (lo triangle 3 1 1 ≡ 0) × (hi triangle 3 1 1 ≡ 0) × (choice triangle 3 1 1 ≡ None) }
-    ensures triangle_at_two { (lo triangle 3 1 2 ≡ 500000000000000000) × (hi triangle 3 1 2 ≡ 500000000000000000) × (choice triangle 3 1 2 ≡ Some 1) }
-    ensures triangle_at_three { (lo triangle 3 1 3 ≡ 750000000000000000) × (hi triangle 3 1 3 ≡ 750000000000000000) × (choice triangle 3 1 3 ≡ Some 3) }
-    ensures triangle_at_four { (lo triangle 3 1 4 ≡ ONE) × (hi triangle 3 1 4 ≡ ONE) × (choice triangle 3 1 4 ≡ Some 1) }
+    ensures triangle_too_late { (lo triangle 3 1 1 ≡ 0) × (hi triangle 3 1 1 ≡ 0)
+        × (choice triangle 3 1 1 ≡ None) }
+    ensures triangle_at_two { (lo triangle 3 1 2 ≡ 500000000000000000)
+        × (hi triangle 3 1 2 ≡ 500000000000000000) × (choice triangle 3 1 2 ≡ Some 1) }
+    ensures triangle_at_three { (lo triangle 3 1 3 ≡ 750000000000000000)
+        × (hi triangle 3 1 3 ≡ 750000000000000000) × (choice triangle 3 1 3 ≡ Some 3) }
+    ensures triangle_at_four { (lo triangle 3 1 4 ≡ ONE) × (hi triangle 3 1 4 ≡ ONE)
+        × (choice triangle 3 1 4 ≡ Some 1) }
 
     // The exact probability is 1/9, between the two values.
-    ensures chain_rounds { (lo chain 3 1 2 ≡ 111111111111111111) × (hi chain 3 1 2 ≡ 111111111111111112) }
+    ensures chain_rounds { (lo chain 3 1 2 ≡ 111111111111111111)
+        × (hi chain 3 1 2 ≡ 111111111111111112) }
     ensures chain_exact { (score chain 3 1 2 chain_tree ≡ 1) × (chain.scale ^ 2 ≡ 9) }
 
     // Who looks at the time of the first road gains 3/4, and each fixed route 1/2.
-    ensures fork_policy { (score fork 3 1 3 (follow fork (choice fork 3) 3 1 3) ≡ 6) × (fork.scale ^ 3 ≡ 8) }
-    ensures fork_routes { (score fork 3 1 3 late_route ≡ 4) × (score fork 3 1 3 certain_route ≡ 4) }
+    ensures fork_policy { (score fork 3 1 3 (follow fork (choice fork 3) 3 1 3) ≡ 6)
+        × (fork.scale ^ 3 ≡ 8) }
+    ensures fork_routes { (score fork 3 1 3 late_route ≡ 4)
+        × (score fork 3 1 3 certain_route ≡ 4) }
 
     // The least times to node 3 are 2, 1 and 0, and the region of an ask with 3 ticks has budgets 2
     // and 3 at node 1, 1 and 2 at node 2.
-    ensures triangle_reach { (reaches triangle 3 3 1 1 ≡ false) × (reaches triangle 3 3 1 2 ≡ true) × (reaches triangle 3 3 2 0 ≡ false) × (reaches triangle 3 3 2 1 ≡ true) × (reaches triangle 3 3 3 0 ≡ true) }
-    ensures triangle_needs { (need triangle 1 3 3 1 ≡ 4) × (need triangle 1 3 3 2 ≡ 3) × (need triangle 1 3 3 3 ≡ 0) }
+    ensures triangle_reach { (reaches triangle 3 3 1 1 ≡ false) × (reaches triangle 3 3 1 2 ≡ true)
+        × (reaches triangle 3 3 2 0 ≡ false) × (reaches triangle 3 3 2 1 ≡ true)
+        × (reaches triangle 3 3 3 0 ≡ true) }
+    ensures triangle_needs { (need triangle 1 3 3 1 ≡ 4) × (need triangle 1 3 3 2 ≡ 3)
+        × (need triangle 1 3 3 3 ≡ 0) }
     ensures triangle_cells { (table_cells triangle 1 3 3 ≡ 4) × (broad_cells triangle 1 3 3 ≡ 0) }
 
     // Of equals the first arc is chosen.
     ensures twins_first { choice twins 2 1 5 ≡ Some 1 }
+
+    // However long the budget, a chance that is missing never arrives.
+    ensures bridge_lost { (lo bridge 2 1 9 ≡ 750000000000000000)
+        × (hi bridge 2 1 9 ≡ 750000000000000000) × (choice bridge 2 1 9 ≡ Some 1) }
+
+    // A closed road is worth nothing, is not chosen, and reaches nothing.
+    ensures barrier_closed { (lo barrier 2 1 9 ≡ 0) × (hi barrier 2 1 9 ≡ 0)
+        × (choice barrier 2 1 9 ≡ None) × (reaches barrier 2 2 1 9 ≡ false) }
 {}

@@ -21,4 +21,6 @@ returns c = record {
   triangle_needs = (refl, refl, refl);
   triangle_cells = (refl, refl);
   twins_first = refl;
+  bridge_lost = (refl, refl, refl);
+  barrier_closed = (refl, refl, refl, refl);
 }
