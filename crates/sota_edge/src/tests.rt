@@ -56,7 +56,6 @@ fn a_sure_desk_never_fails(rt: HostRuntime) -> Result<(), Fail> {
 
 /// Whether putting `abcde` answers so, at most `chunk` bytes at a time, and leaves this written.
 /// One put fails.
-/// put fails.
 fn puts(
     alloc: Global,
     chunk: u32,
