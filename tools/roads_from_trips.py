@@ -8,8 +8,9 @@ was driven. Ids of roads and places are any text. Three files are written:
     PREFIX.csv       the histograms: how often each time was observed, as masses that sum to Q
     PREFIX.ids.csv   which node and arc number stands for which id, and how often a road was seen
 
-Times are rounded to whole ticks, to one tick at least. Nothing is smoothed and nothing is learned:
-a road that nobody drove is not in the network, and a time that nobody took has no mass.
+Times are rounded to the nearest whole number of ticks (the even one of two), to one tick at least.
+Nothing is smoothed and nothing is learned: a road that nobody drove is not in the network, and a
+time that nobody took has no mass.
 """
 from __future__ import annotations
 
@@ -62,8 +63,8 @@ def tick_length(word: str) -> Fraction:
 
 
 def ticks(time: Fraction, tick: Fraction) -> int:
-    """A time in whole ticks, halves rounded up, one at least."""
-    return max(1, (2 * time + tick) // (2 * tick))
+    """A time in the nearest whole number of ticks, the even one of two; one at least."""
+    return max(1, round(time / tick))
 
 
 class Reader:

@@ -121,9 +121,9 @@ class Plans(ToolCase):
         words = ["--node", "Depot", "--ids", self.ids, "--tick", 5]
         status, out, err = self.show(data, *words, "--network", *self.files)
         self.assertEqual((status, err), (0, ""))
-        expected = """From Depot to Hospital within 450 s: chance 98.6 %
+        expected = """From Depot to Hospital within 450 s: chance 98.7 %
 At Depot:
-  with 425 to 450 s left take road Mill Lane out to Mill (chance 93.7 % to 98.6 %)
+  with 425 to 450 s left take road Mill Lane out to Mill (chance 93.8 % to 98.7 %)
   with 250 to 420 s left take road Station Road out to Station (chance below 0.1 % to 92.7 %)
   with less than 250 s left the plan takes no road
 """

@@ -25,10 +25,10 @@ class Reliability(ToolCase):
         status, out, err = self.town(60, 85, "--tick", 5)
         self.assertEqual((status, err), (0, ""))
         table = """time allowed             now  by road
-       300 s          23.0 %  Station Road out
-       350 s          67.2 %  Station Road out
-       400 s          89.3 %  Station Road out
-       425 s          93.7 %  Mill Lane out
+       300 s          23.2 %  Station Road out
+       350 s          67.3 %  Station Road out
+       400 s          89.4 %  Station Road out
+       425 s          93.8 %  Mill Lane out
 
 To be 90 % sure, allow 405 s.
 """
@@ -44,7 +44,7 @@ To be 90 % sure, allow 405 s.
         self.assertEqual(
             rows[0], ["ticks", "chance", "road", "chance_after_edits", "road_after_edits"]
         )
-        self.assertEqual(rows[1][:3], ["70", "0.672437500000000000", "Station Road out"])
+        self.assertEqual(rows[1][:3], ["70", "0.673375000000000000", "Station Road out"])
         self.assertLess(rows[1][3], rows[1][1])
         self.assertIn("To be 50 % sure now, allow 70 ticks or less.\n", err)
         self.assertIn("To be 50 % sure road closed, ", err)

@@ -13,7 +13,7 @@ from sota_files import BadData, Network, id_order, masses, median, percent, read
 SMALL = """road,from,to,seconds
 r2,B,C,4.4
 r10,C,A,10
-r2,B,C,4.5
+r2,B,C,4.6
 r2,B,C,0
 """
 
@@ -136,8 +136,8 @@ class Shared(unittest.TestCase):
         self.assertEqual(masses(Counter({1: 1, 2: 5}), 4), [(1, 1), (2, 3)])
         self.assertEqual(masses(Counter({7: 9}), 1), [(7, 1)])
 
-    def test_ticks_are_rounded_to_one_at_least(self) -> None:
-        for seconds, tick, found in ((0, 1, 1), (14, 10, 1), (15, 10, 2), (25, 10, 3)):
+    def test_ticks_are_the_nearest_even_of_two_and_one_at_least(self) -> None:
+        for seconds, tick, found in ((0, 1, 1), (14, 10, 1), (15, 10, 2), (25, 10, 2), (26, 10, 3)):
             made = roads_from_trips.ticks(Fraction(seconds), Fraction(tick))
             self.assertEqual(made, found)
 
