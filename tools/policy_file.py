@@ -87,7 +87,7 @@ class Policy:
             yield budget, Entry(*fields)
 
 
-class _Reader:
+class FileReader:
     """Goes through a file from the front, and stops at its first fault."""
 
     def __init__(self, path: str) -> None:
@@ -129,14 +129,14 @@ class _Reader:
         if not is_head(head):
             raise self.refuse("Range", 0, 0)
         if version == 1:
-            self.rows_of_first(head, rest[0])
+            self.take_rows(head, rest[0])
         else:
-            self.rows_of_second(head)
+            self.take_nodes(head)
         if self.offset < len(self.data):
             raise self.refuse("Trailing", self.offset, self.offset)
         return head
 
-    def rows_of_first(self, head: Policy, rows: int) -> None:
+    def take_rows(self, head: Policy, rows: int) -> None:
         before = 0
         for number in range(1, rows + 1):
             start = self.offset
@@ -149,7 +149,7 @@ class _Reader:
             head.rows[node] = self.take_entries(1, first, count)
             before = node
 
-    def rows_of_second(self, head: Policy) -> None:
+    def take_nodes(self, head: Policy) -> None:
         for node in range(1, head.nodes + 1):
             start = self.offset
             first, count = self.take(ROW[2])
@@ -175,4 +175,4 @@ def is_head(head: Policy) -> bool:
 
 def read_policy(path: str) -> Policy:
     """Reads a policy file of either version; PolicyFault says where it goes wrong."""
-    return _Reader(path).read()
+    return FileReader(path).read()

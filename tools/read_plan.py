@@ -26,12 +26,12 @@ from sota_files import (
     Ids,
     Network,
     WrongUse,
-    exact,
+    all_digits,
     percent,
     read_ids,
     read_network,
     run_tool,
-    tick_seconds,
+    tick_length,
 )
 
 
@@ -88,7 +88,7 @@ def stretches(policy: Policy, node: int) -> list[Stretch]:
     return found[::-1]
 
 
-def belongs(policy: Policy, network: Network, path: str) -> None:
+def check_network(policy: Policy, network: Network, path: str) -> None:
     """Refuses a network that is not the plan's."""
     if (policy.nodes, policy.scale) != (network.nodes, network.scale):
         raise BadData(
@@ -208,7 +208,7 @@ def write_stretches(reading: Reading, nodes: Sequence[int]) -> None:
         for each in stretches(reading.policy, node):
             road = reading.ids.arc(each.arc) if each.arc else "-"
             values = [
-                exact(getattr(entry, bound))
+                all_digits(getattr(entry, bound))
                 for entry in (each.at_low, each.at_high)
                 for bound in bounds
             ]
@@ -221,7 +221,7 @@ def write_trip(reading: Reading, network: Network, steps: list[Step]) -> None:
     out.writerow(["place", "ticks_left", "road", "to", "ticks_taken", "lower"])
     for step in steps:
         head = reading.ids.node(network.arcs[step.arc - 1].head)
-        chance = exact(reading.chance(step.node, step.left))
+        chance = all_digits(reading.chance(step.node, step.left))
         place, road = reading.ids.node(step.node), reading.ids.arc(step.arc)
         out.writerow([place, step.left, road, head, step.takes, chance])
 
@@ -254,7 +254,7 @@ def show(given: argparse.Namespace) -> None:
     policy = read_policy(given.policy)
     network = read_network(*given.network) if given.network else None
     if network:
-        belongs(policy, network, given.policy)
+        check_network(policy, network, given.policy)
     reading = Reading(policy, ids, Clock(given.tick), network)
     if given.trip:
         show_trip(reading, given.csv)
@@ -284,7 +284,7 @@ def arguments() -> argparse.ArgumentParser:
     parser.add_argument("--ids", metavar="TABLE", help="the table of ids (.ids.csv)")
     parser.add_argument(
         "--tick",
-        type=tick_seconds,
+        type=tick_length,
         metavar="SECONDS",
         help="the length of a tick: times are then shown in seconds",
     )

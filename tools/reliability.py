@@ -28,18 +28,27 @@ from sota_files import (
     Clock,
     Ids,
     WrongUse,
+    all_digits,
     at,
-    exact,
     keep_inputs,
     number_from,
     percent,
     read_ids,
     read_text,
     run_tool,
-    tick_seconds,
+    tick_length,
 )
 
 BUILT = Path(__file__).resolve().parent.parent / "crates" / "sota" / "out" / "sota"
+LINE_CAUSES = ("SecondProblem", "BadLine", "NodeRange", "ArcBeforeProblem", "TooManyArcs")
+RECORD_CAUSES = ("Fields", "Number", "NoArc", "ZeroTick", "RepeatedTick")
+PLACES = {
+    **dict.fromkeys(LINE_CAUSES, "line"),
+    **dict.fromkeys(RECORD_CAUSES, "record"),
+    "Sum": "arc",
+    "ZeroTime": "arc",
+}
+REPLIES = {"ask": "answer", "edit": "edited", "close": "closed"}
 CAUSES = {
     "Word": "no command",
     "Count": "wrong number of fields",
@@ -101,14 +110,18 @@ class Trip:
                 ) from None
         if done.returncode not in (0, 1):
             raise BadData(self.failure(done.returncode, done.stdout))
-        return checked(script, done.stdout.splitlines())
+        replies = done.stdout.splitlines()
+        check_replies(script, replies)
+        return replies
 
     def failure(self, status: int, output: str) -> str:
         """Why the program gave no replies."""
         fields = output.split()
         if status == 3 and len(fields) == 4:
-            name = {"graph": self.graph, "hists": self.histograms}.get(fields[1], fields[1])
-            return f"{name}: the program refuses it: {fields[2]} at {fields[3]}"
+            _, kind, cause, place = fields
+            name = {"graph": self.graph, "hists": self.histograms}.get(kind, kind)
+            where = f" ({PLACES[cause]} {place})" if cause in PLACES else f" {place}"
+            return f"{name}: the program refuses it: {cause}{where}"
         if status == 4:
             return f"{self.graph} or {self.histograms}: cannot be read"
         if status == 6:
@@ -116,19 +129,19 @@ class Trip:
         return f"{self.program}: ended with status {status}"
 
 
-def checked(script: list[Line], replies: list[str]) -> list[str]:
-    """The replies, where none is a refusal and none is missing."""
+def check_replies(script: list[Line], replies: list[str]) -> None:
+    """Refuses replies of which one is a refusal, or not what its line asks for."""
     refusals = []
     for line, reply in zip(script, replies):
-        fields = reply.split()
-        if fields[:1] == ["refused"]:
-            cause = fields[2] if len(fields) > 2 else ""
-            refusals.append(f"{line.source}: {CAUSES.get(cause, 'refused')} ({cause})")
+        kind, *fields = reply.split() or [""]
+        if kind == "refused" and len(fields) >= 2:
+            refusals.append(f"{line.source}: {CAUSES.get(fields[1], 'refused')} ({fields[1]})")
+        elif kind != REPLIES[line.text.split()[0]]:
+            raise BadData(f"no reply to '{line.text}': {reply}")
     if refusals:
         raise BadData(*dict.fromkeys(refusals))
     if len(replies) != len(script):
         raise BadData(f"the program gave {len(replies)} replies to {len(script)} lines")
-    return replies
 
 
 def points(replies: list[str]) -> list[Point]:
@@ -145,7 +158,7 @@ def points(replies: list[str]) -> list[Point]:
 def read_edits(path: str) -> list[Line]:
     """The lines of a script that change the network; its asks are left out."""
     edits = []
-    for number, text in enumerate(read_text(path).splitlines(), start=1):
+    for number, text in enumerate(read_text(path).split("\n"), start=1):
         if text.split()[:1] in (["edit"], ["close"]):
             edits.append(Line(text.strip(), f"{path}:{number}"))
     if not edits:
@@ -214,7 +227,7 @@ def write_csv(found: list[list[Point]], ids: Ids) -> None:
     columns = ["chance", "road", "chance_after_edits", "road_after_edits"]
     out.writerow(["ticks"] + columns[: 2 * len(found)])
     for row in zip(*found):
-        cells = [[exact(each.chance), road_name(ids, each.arc)] for each in row]
+        cells = [[all_digits(each.chance), road_name(ids, each.arc)] for each in row]
         out.writerow([row[0].budget] + sum(cells, []))
 
 
@@ -233,7 +246,7 @@ def draw(
         from matplotlib import pyplot
     except ImportError:
         raise BadData("a picture needs matplotlib (python3-matplotlib, or pip install matplotlib)")
-    scale, level = clock.seconds or 1, float(given.sure)
+    scale, level = float(clock.tick or 1), float(given.sure)
     figure, axes = pyplot.subplots(figsize=(8, 4.8), layout="constrained")
     for curve, need, name, colour in zip(found, needs, names, ("#1f5fa8", "#c7522a")):
         times = [each.budget * scale for each in curve]
@@ -254,7 +267,7 @@ def draw(
         title=title,
         ylabel="chance to arrive in time (%)",
         ylim=(0, 102),
-        xlabel="time allowed (s)" if clock.seconds else "time allowed (ticks)",
+        xlabel="time allowed (s)" if clock.tick else "time allowed (ticks)",
     )
     axes.grid(alpha=0.3)
     axes.spines[["top", "right"]].set_visible(False)
@@ -268,20 +281,20 @@ def mark_need(axes: Any, time: float, level: float, colour: str, clock: Clock) -
     """Marks in a picture how much time must be allowed."""
     axes.plot([time], [level], "o", color=colour)
     axes.plot([time, time], [0, level], color=colour, linewidth=0.8, linestyle=":")
-    unit = " s" if clock.seconds else ""
+    unit = " s" if clock.tick else ""
     axes.annotate(
         f"{time:g}{unit}", (time, 2), xytext=(4, 0), textcoords="offset points", color=colour
     )
 
 
-def per_cent(word: str) -> str:
+def sure_percent(word: str) -> str:
     """A number of per cent above 0 and up to 100, for the command line."""
-    if not re.fullmatch(r"[0-9]{1,3}(\.[0-9]{1,16})?", word) or not 0 < units(word) <= ONE:
+    if not re.fullmatch(r"[0-9]{1,3}(\.[0-9]{1,16})?", word) or not 0 < percent_units(word) <= ONE:
         raise argparse.ArgumentTypeError(f"'{word}' is no number of per cent from 0 to 100")
     return word
 
 
-def units(sure: str) -> int:
+def percent_units(sure: str) -> int:
     """A number of per cent in units of 10^-18."""
     whole, _, digits = sure.partition(".")
     return int(whole + digits.ljust(16, "0"))
@@ -322,7 +335,7 @@ def arguments() -> argparse.ArgumentParser:
     )
     parser.add_argument(
         "--sure",
-        type=per_cent,
+        type=sure_percent,
         default="90",
         metavar="PERCENT",
         help="how sure one must be to arrive in time (default 90)",
@@ -330,7 +343,7 @@ def arguments() -> argparse.ArgumentParser:
     parser.add_argument("--ids", metavar="TABLE", help="the table of ids (.ids.csv)")
     parser.add_argument(
         "--tick",
-        type=tick_seconds,
+        type=tick_length,
         metavar="SECONDS",
         help="the length of a tick: times are then shown in seconds",
     )
@@ -367,7 +380,7 @@ def show(given: argparse.Namespace) -> None:
     edits = read_edits(given.edits) if given.edits else []
     found = curves(trip, budgets, edits, given.script)
     names = ["now", given.after][: len(found)]
-    sure = units(given.sure)
+    sure = percent_units(given.sure)
     changes: list[list[Line]] = [[], edits]
     needs = [least_time(trip, curve, before, sure) for curve, before in zip(found, changes)]
     answers = sure_words(needs, names, given, clock)

@@ -25,25 +25,15 @@ import argparse
 import gzip
 import math
 import sys
+import zlib
 from dataclasses import dataclass
 from fractions import Fraction
 from pathlib import Path
 from typing import Iterator, Sequence
 from xml.parsers import expat
 
-from roads_from_trips import report, seconds, tick_length, ticks
-from sota_files import (
-    NUMBER_LIMIT,
-    SCALE_LIMIT,
-    BadData,
-    Road,
-    at,
-    keep_inputs,
-    network_files,
-    number_from,
-    run_tool,
-    write_network,
-)
+from observed_roads import Road, add_arguments, network_files, ticks, write_network
+from sota_files import BadData, at, keep_inputs, run_tool, seconds
 
 NO_EXIT_TIMES = "no route has exit times; run sumo with --vehroute-output.exit-times true"
 
@@ -95,7 +85,7 @@ def tags(path: str) -> Iterator[Tag]:
     except expat.ExpatError as fault:
         words = f"not XML: {expat.ErrorString(fault.code)}"
         raise BadData(at(path, fault.lineno, words)) from None
-    except (gzip.BadGzipFile, EOFError) as fault:
+    except (gzip.BadGzipFile, EOFError, zlib.error) as fault:
         raise BadData(f"{path}: not gzip: {fault}") from None
 
 
@@ -135,7 +125,7 @@ def road_of(roads: dict[str, Road], name: str, tag: Tag, net: str) -> Road:
     return roads[name]
 
 
-def driven(path: str) -> Iterator[Tag]:
+def driven_routes(path: str) -> Iterator[Tag]:
     """The route that each vehicle drove: the last one written for it."""
     route: Tag | None = None
     for tag in tags(path):
@@ -152,7 +142,7 @@ def driven(path: str) -> Iterator[Tag]:
 def take_routes(roads: dict[str, Road], path: str, net: str, tick: Fraction) -> None:
     """Counts the times of the vehicles on the roads that they drove whole."""
     none = True
-    for route in driven(path):
+    for route in driven_routes(path):
         none = False
         names, exits = route.text("edges").split(), route.text("exitTimes").split()
         if len(names) != len(exits):
@@ -192,62 +182,39 @@ def arguments() -> argparse.ArgumentParser:
         description=__doc__, formatter_class=argparse.RawDescriptionHelpFormatter
     )
     parser.add_argument("net", metavar="NET", help="the SUMO network")
-    parser.add_argument("prefix", metavar="PREFIX", help="how the names of the three files begin")
+    add_arguments(parser, "a road with fewer than N observations is named and takes its weight")
     source = parser.add_mutually_exclusive_group(required=True)
     source.add_argument("--routes", metavar="FILE", help="routes of vehicles with exit times")
     source.add_argument("--edgedata", metavar="FILE", help="mean times by road and interval")
-    parser.add_argument(
-        "--tick",
-        type=tick_length,
-        default=Fraction(1),
-        metavar="SECONDS",
-        help="the length of a tick in seconds, such as 5 or 0.5 (default 1)",
-    )
-    parser.add_argument(
-        "--scale",
-        type=number_from(1, SCALE_LIMIT),
-        default=1_000_000,
-        metavar="Q",
-        help="what the masses of a road sum to (default 1000000)",
-    )
-    parser.add_argument(
-        "--few",
-        type=number_from(0, NUMBER_LIMIT),
-        default=5,
-        metavar="N",
-        help="a road with fewer than N observations is named and takes its " "weight (default 5)",
-    )
     parser.add_argument(
         "--class",
         dest="kind",
         default="passenger",
         metavar="CLASS",
-        help="the roads open to this class of vehicles (default passenger)",
+        help="take the roads open to this class of vehicles (default passenger)",
     )
     return parser
 
 
+def make(given: argparse.Namespace) -> None:
+    """Makes the network of a SUMO network and its output."""
+    keep_inputs(network_files(given.prefix), [given.net, given.routes, given.edgedata])
+    all_roads = read_roads(given.net, given.kind, given.tick)
+    if given.routes:
+        take_routes(all_roads, given.routes, given.net, given.tick)
+    else:
+        take_edge_data(all_roads, given.edgedata, given.net, given.tick)
+    roads = [road for road in all_roads.values() if road.usual]
+    if not roads:
+        raise BadData(f"{given.net}: no road is open to the class '{given.kind}'")
+    for road in roads:
+        road.certain = road.observations() < max(1, given.few)
+    write_network(roads, given, f"the SUMO network {Path(given.net).name}")
+
+
 def main(words: Sequence[str] | None = None) -> int:
     given = arguments().parse_args(words)
-
-    def make() -> None:
-        keep_inputs(network_files(given.prefix), [given.net, given.routes, given.edgedata])
-        by_name = read_roads(given.net, given.kind, given.tick)
-        if given.routes:
-            take_routes(by_name, given.routes, given.net, given.tick)
-        else:
-            take_edge_data(by_name, given.edgedata, given.net, given.tick)
-        roads = [road for road in by_name.values() if road.usual]
-        if not roads:
-            raise BadData(f"{given.net}: no road is open to the class '{given.kind}'")
-        for road in roads:
-            road.certain = road.observations() < max(1, given.few)
-        tick = f"{float(given.tick):g}"
-        about = f"made of the SUMO network {Path(given.net).name}; 1 tick = {tick} s"
-        made = write_network(roads, given.prefix, given.scale, given.few, about)
-        report(made, given.prefix, given.scale, tick)
-
-    return run_tool(make)
+    return run_tool(lambda: make(given))
 
 
 if __name__ == "__main__":

@@ -15,56 +15,26 @@ time that nobody took has no mass.
 from __future__ import annotations
 
 import argparse
-import re
 import sys
 from fractions import Fraction
 from functools import lru_cache
 from pathlib import Path
 from typing import Sequence
 
+from observed_roads import Road, add_arguments, network_files, ticks, write_network
 from sota_files import (
     NUMBER_LIMIT,
-    SCALE_LIMIT,
     BadData,
-    Made,
-    Road,
     at,
     first_record,
     keep_inputs,
-    network_files,
-    number_from,
     read_records,
     run_tool,
-    write_network,
+    seconds,
 )
 
 COLUMNS = ("road", "from", "to", "seconds")
 SHOWN = 20
-SECONDS = re.compile(r"[0-9]{1,15}(\.[0-9]{0,30})?|\.[0-9]{1,30}")
-
-
-def seconds(word: str) -> Fraction:
-    """A number of seconds as it stands in a text; ValueError where it is none."""
-    if not SECONDS.fullmatch(word):
-        raise ValueError(word)
-    whole, _, digits = word.partition(".")
-    return Fraction(int((whole or "0") + digits), 10 ** len(digits))
-
-
-def tick_length(word: str) -> Fraction:
-    """The length of a tick, for the command line."""
-    try:
-        length = seconds(word)
-    except ValueError:
-        length = Fraction(0)
-    if length == 0:
-        raise argparse.ArgumentTypeError(f"'{word}' is no length of a tick in seconds")
-    return length
-
-
-def ticks(time: Fraction, tick: Fraction) -> int:
-    """A time in the nearest whole number of ticks, the even one of two; one at least."""
-    return max(1, round(time / tick))
 
 
 class Reader:
@@ -123,57 +93,25 @@ def read_trips(path: str, tick: Fraction) -> list[Road]:
     return list(reader.roads.values())
 
 
-def report(made: Made, prefix: str, scale: int, tick: str) -> None:
-    """Says what was written and what to mind about it."""
-    for remark in made.remarks:
-        print(remark, file=sys.stderr)
-    print(f"{prefix}.gr: {made.nodes} places and {made.arcs} roads; a tick is {tick} s")
-    print(f"{prefix}.csv: the times of each road, masses over {scale}")
-    print(f"{prefix}.ids.csv: which number stands for which id")
-
-
 def arguments() -> argparse.ArgumentParser:
     parser = argparse.ArgumentParser(
         description=__doc__, formatter_class=argparse.RawDescriptionHelpFormatter
     )
     parser.add_argument("trips", metavar="TRIPS", help="the CSV file of observed trips")
-    parser.add_argument("prefix", metavar="PREFIX", help="how the names of the three files begin")
-    parser.add_argument(
-        "--tick",
-        type=tick_length,
-        default=Fraction(1),
-        metavar="SECONDS",
-        help="the length of a tick in seconds, such as 5 or 0.5 (default 1)",
-    )
-    parser.add_argument(
-        "--scale",
-        type=number_from(1, SCALE_LIMIT),
-        default=1_000_000,
-        metavar="Q",
-        help="what the masses of a road sum to (default 1000000)",
-    )
-    parser.add_argument(
-        "--few",
-        type=number_from(0, NUMBER_LIMIT),
-        default=5,
-        metavar="N",
-        help="name the roads with fewer than N observations (default 5)",
-    )
+    add_arguments(parser, "name the roads with fewer than N observations")
     return parser
+
+
+def make(given: argparse.Namespace) -> None:
+    """Makes the network of a file of trips."""
+    keep_inputs(network_files(given.prefix), [given.trips])
+    roads = read_trips(given.trips, given.tick)
+    write_network(roads, given, f"the observed trips in {Path(given.trips).name}")
 
 
 def main(words: Sequence[str] | None = None) -> int:
     given = arguments().parse_args(words)
-
-    def make() -> None:
-        keep_inputs(network_files(given.prefix), [given.trips])
-        roads = read_trips(given.trips, given.tick)
-        tick = f"{float(given.tick):g}"
-        about = f"made of the observed trips in {Path(given.trips).name}; 1 tick = {tick} s"
-        made = write_network(roads, given.prefix, given.scale, given.few, about)
-        report(made, given.prefix, given.scale, tick)
-
-    return run_tool(make)
+    return run_tool(lambda: make(given))
 
 
 if __name__ == "__main__":

@@ -1,6 +1,7 @@
-"""What the tools share: networks as sota reads them, tables of ids, and faults that say where.
+"""What all tools share: networks as sota reads them, tables of ids, words for chances and times,
+and faults that say where.
 
-Times are whole ticks. Nodes and arcs are numbered from 1, in the order of their places and roads.
+Times are whole ticks. Nodes and arcs are numbered from 1.
 """
 from __future__ import annotations
 
@@ -10,8 +11,8 @@ import io
 import os
 import re
 import sys
-from collections import Counter
 from dataclasses import dataclass, field
+from fractions import Fraction
 from pathlib import Path
 from typing import Callable, Iterator, Sequence
 
@@ -57,7 +58,7 @@ def run_tool(tool: Callable[[], None]) -> int:
         os.dup2(os.open(os.devnull, os.O_WRONLY), sys.stdout.fileno())
         return 1
     except OSError as fault:
-        print(f"{fault.filename}: {fault.strerror}", file=sys.stderr)
+        print(f"{fault.filename or 'output'}: {fault.strerror}", file=sys.stderr)
         return 1
     return 0
 
@@ -71,15 +72,42 @@ def keep_inputs(outputs: Sequence[str | None], inputs: Sequence[str | None]) -> 
                     raise WrongUse(f"{output} would be written over {source}, which is read")
 
 
+def is_number(word: str) -> bool:
+    """Whether a word is a whole number of the program's range."""
+    return bool(re.fullmatch("[0-9]{1,30}", word)) and int(word) <= NUMBER_LIMIT
+
+
 def number_from(least: int, most: int) -> Callable[[str], int]:
     """A reader of a whole number within limits, for a command line."""
 
     def read(word: str) -> int:
-        if not re.fullmatch("[0-9]{1,12}", word) or not least <= int(word) <= most:
+        if not is_number(word) or not least <= int(word) <= most:
             raise argparse.ArgumentTypeError(f"'{word}' is no whole number from {least} to {most}")
         return int(word)
 
     return read
+
+
+SECONDS = re.compile(r"[0-9]{1,15}(\.[0-9]{0,30})?|\.[0-9]{1,30}")
+
+
+def seconds(word: str) -> Fraction:
+    """A number of seconds as it stands in a text; ValueError where it is none."""
+    if not SECONDS.fullmatch(word):
+        raise ValueError(word)
+    whole, _, digits = word.partition(".")
+    return Fraction(int((whole or "0") + digits), 10 ** len(digits))
+
+
+def tick_length(word: str) -> Fraction:
+    """The length of a tick in seconds, for a command line."""
+    try:
+        length = seconds(word)
+    except ValueError:
+        length = Fraction(0)
+    if length == 0:
+        raise argparse.ArgumentTypeError(f"'{word}' is no length of a tick in seconds")
+    return length
 
 
 def read_text(path: Path | str) -> str:
@@ -114,120 +142,9 @@ def first_record(records: Iterator[tuple[int, list[str]]]) -> tuple[int, list[st
     return 1, []
 
 
-def id_order(name: str) -> list[int | str]:
-    """A key that puts ids in the order a person expects: J2 before J10."""
-    parts = re.split("([0-9]+)", name)
-    return [int(part) if place % 2 else part for place, part in enumerate(parts)] + [name]
-
-
-# Networks as observed
-
-
-@dataclass
-class Road:
-    """A road and how often each time, in ticks, was observed on it.
-
-    A road with a usual time may be certain: it then takes that time, whatever was observed.
-    """
-
-    name: str
-    tail: str
-    head: str
-    times: Counter[int] = field(default_factory=Counter)
-    usual: int = 0
-    certain: bool = False
-
-    def observations(self) -> int:
-        return sum(self.times.values())
-
-    def weight(self) -> int:
-        """The usual time where it is known, else the (lower) median of the observed times."""
-        return self.usual or median(self.times)
-
-
-def median(times: Counter[int]) -> int:
-    """The least time that at least half of the observations do not exceed."""
-    passed, total = 0, sum(times.values())
-    for tick in sorted(times):
-        passed += times[tick]
-        if 2 * passed >= total:
-            return tick
-    raise ValueError("no times")
-
-
-def masses(times: Counter[int], scale: int) -> list[tuple[int, int]]:
-    """Counts as masses that sum to the scale, by largest remainders; on ties the least tick."""
-    total = sum(times.values())
-    shares = {tick: divmod(times[tick] * scale, total) for tick in sorted(times)}
-    left = scale - sum(whole for whole, _ in shares.values())
-    raised = set(sorted(shares, key=lambda tick: (-shares[tick][1], tick))[:left])
-    return [(tick, whole + (tick in raised)) for tick, (whole, _) in shares.items()]
-
-
-@dataclass
-class Made:
-    """What was written: the numbers of places and roads, and what to tell about them."""
-
-    nodes: int
-    arcs: int
-    remarks: list[str]
-
-
-def network_files(prefix: str) -> list[str]:
-    """The graph, the histograms and the table of ids of a network that is made."""
-    return [f"{prefix}.gr", f"{prefix}.csv", f"{prefix}.ids.csv"]
-
-
-def write_network(roads: list[Road], prefix: str, scale: int, few: int, about: str) -> Made:
-    """Writes PREFIX.gr, PREFIX.csv and PREFIX.ids.csv."""
-    roads = sorted(roads, key=lambda road: id_order(road.name))
-    places = sorted({end for road in roads for end in (road.tail, road.head)}, key=id_order)
-    if not roads:
-        raise BadData("no road has been found")
-    if len(places) > NODE_LIMIT or len(roads) > ARC_LIMIT:
-        raise BadData(
-            f"{len(places)} places and {len(roads)} roads are more than the program reads "
-            f"({NODE_LIMIT} and {ARC_LIMIT})"
-        )
-    number = {place: node for node, place in enumerate(places, start=1)}
-    graph = [f"c {about}", f"p sp {len(places)} {len(roads)}"]
-    graph += [f"a {number[road.tail]} {number[road.head]} {road.weight()}" for road in roads]
-    times = [f"arc,tick,mass/{scale}"]
-    lost: list[str] = []
-    for arc, road in enumerate(roads, start=1):
-        pairs = [] if road.certain else masses(road.times, scale)
-        times += [f"{arc},{tick},{mass}" for tick, mass in pairs if mass]
-        gone = sum(mass == 0 for _, mass in pairs)
-        if gone:
-            lost.append(f"road {road.name}: {gone} observed times have no mass at Q {scale}")
-    graph_file, times_file, ids_file = network_files(prefix)
-    write_lines(graph_file, graph)
-    write_lines(times_file, times)
-    write_ids(ids_file, places, roads)
-    return Made(len(places), len(roads), few_remarks(roads, few) + lost)
-
-
-def few_remarks(roads: list[Road], few: int) -> list[str]:
-    """Names the roads with fewer observations than asked for, and those taken as certain."""
-    return [
-        f"few observations: road {road.name} from {road.tail} to {road.head} "
-        f"has {road.observations()}"
-        + (f" and takes {road.weight()} ticks for certain" if road.certain else "")
-        for road in roads
-        if road.certain or road.observations() < few
-    ]
-
-
-def write_lines(path: str, lines: list[str]) -> None:
-    """Writes a text that the program reads, unless it is too long for it."""
-    text = "".join(line + "\n" for line in lines)
-    if len(text.encode()) > FILE_LIMIT:
-        raise BadData(f"{path} would have more than {FILE_LIMIT} bytes; take longer ticks")
-    with open(path, "w", encoding="utf-8", newline="\n") as out:
-        out.write(text)
-
-
 # Tables of ids
+
+IDS_HEADER = ["kind", "number", "id", "observations"]
 
 
 @dataclass
@@ -247,27 +164,13 @@ class Ids:
     def find_node(self, name: str) -> int:
         """The number of a place; without a table the place is that number."""
         if not self.path:
-            if not re.fullmatch("[0-9]{1,9}", name):
+            if not is_number(name):
                 raise WrongUse(f"'{name}' is no node number, and no table of ids was given")
             return int(name)
         for number, known in self.nodes.items():
             if known == name:
                 return number
         raise WrongUse(f"no place is called '{name}' in {self.path}")
-
-
-IDS_HEADER = ["kind", "number", "id", "observations"]
-
-
-def write_ids(path: str, places: list[str], roads: list[Road]) -> None:
-    """Writes the table of ids: one record a place and a road."""
-    with open(path, "w", encoding="utf-8", newline="") as out:
-        table = csv.writer(out, lineterminator="\n")
-        table.writerow(IDS_HEADER)
-        for node, place in enumerate(places, start=1):
-            table.writerow(["node", node, place, ""])
-        for arc, road in enumerate(roads, start=1):
-            table.writerow(["arc", arc, road.name, road.observations()])
 
 
 def read_ids(path: str | None) -> Ids:
@@ -281,7 +184,7 @@ def read_ids(path: str | None) -> Ids:
     if header[:3] != IDS_HEADER[:3]:
         raise BadData(at(path, line, "the header of a table of ids begins with kind,number,id"))
     for line, fields in records:
-        if len(fields) < 3 or fields[0] not in kinds or not fields[1].isdecimal():
+        if len(fields) < 3 or fields[0] not in kinds or not is_number(fields[1]):
             raise BadData(at(path, line, "not 'node' or 'arc', a number and an id"))
         kinds[fields[0]][int(fields[1])] = fields[2]
     return ids
@@ -310,7 +213,7 @@ class Network:
 
 def numbers(path: str, line: int, fields: Sequence[str]) -> list[int]:
     """Fields as whole numbers of the program's range."""
-    if not all(re.fullmatch("[0-9]{1,30}", each) and int(each) <= NUMBER_LIMIT for each in fields):
+    if not all(is_number(each) for each in fields):
         raise BadData(at(path, line, f"not whole numbers: {' '.join(fields)}"))
     return [int(each) for each in fields]
 
@@ -365,7 +268,7 @@ def read_network(graph: str, histograms: str) -> Network:
 # Chances in words
 
 
-def exact(value: int) -> str:
+def all_digits(value: int) -> str:
     """A chance with its 18 digits, as the program writes it."""
     return f"{value // ONE}.{value % ONE:018d}"
 
@@ -382,13 +285,15 @@ def percent(value: int) -> str:
 class Clock:
     """How long a tick is, for words about times; without a length, times are ticks."""
 
-    seconds: float | None = None
+    tick: Fraction | None = None
 
     def amount(self, ticks: int) -> str:
-        return f"{ticks}" if self.seconds is None else f"{ticks * self.seconds:.10g}"
+        """A time as a number of seconds, or of ticks."""
+        return f"{ticks}" if self.tick is None else f"{float(ticks * self.tick):.10g}"
 
     def unit(self) -> str:
-        return "ticks" if self.seconds is None else "s"
+        """What the number counts."""
+        return "ticks" if self.tick is None else "s"
 
     def words(self, ticks: int) -> str:
         return f"{self.amount(ticks)} {self.unit()}"
@@ -396,10 +301,3 @@ class Clock:
     def span(self, low: int, high: int) -> str:
         """From one time to another, or the one time that both are."""
         return self.words(low) if low == high else f"{self.amount(low)} to {self.words(high)}"
-
-
-def tick_seconds(word: str) -> float:
-    """The length of a tick in seconds, for a command line."""
-    if not re.fullmatch(r"[0-9]{1,9}(\.[0-9]{1,9})?", word) or float(word) == 0:
-        raise argparse.ArgumentTypeError(f"'{word}' is no length of a tick in seconds")
-    return float(word)

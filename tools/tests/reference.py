@@ -15,7 +15,15 @@ from typing import Iterator
 
 sys.path.insert(0, str(Path(__file__).resolve().parent.parent))
 
-from sota_files import BUDGET_LIMIT, ONE, Arc, BadData, Network, exact, read_network  # noqa: E402
+from sota_files import (
+    BUDGET_LIMIT,
+    ONE,
+    Arc,
+    BadData,
+    Network,
+    all_digits,
+    read_network,
+)  # noqa: E402
 
 
 class Grid:
@@ -140,7 +148,8 @@ class Session:
         arc = int(fields[1])
         if not 1 <= arc <= len(self.network.arcs):
             return f"refused {line} NoArc"
-        pairs = [tuple(map(int, each.split(":"))) for each in fields[2:]]
+        halves = [each.split(":") for each in fields[2:]]
+        pairs = [(int(tick), int(mass)) for tick, mass in halves]
         if sum(mass for _, mass in pairs) > self.network.scale:
             return f"refused {line} Sum"
         self.network.arcs[arc - 1].pairs = sorted(pair for pair in pairs if pair[1])
@@ -156,7 +165,7 @@ class Session:
         grid.grow(budget)
         lower, upper = grid.lower[budget][origin], grid.upper[budget][origin]
         arc = grid.choice[budget][origin] or "-"
-        return f"answer {origin} {dest} {budget} {exact(lower)} {exact(upper)} {arc}"
+        return f"answer {origin} {dest} {budget} {all_digits(lower)} {all_digits(upper)} {arc}"
 
 
 def main() -> int:

@@ -11,7 +11,7 @@ from helpers import BUILT, EXAMPLES, ToolCase
 
 import read_plan
 import reference
-from policy_file import Policy, PolicyFault, read_policy
+from policy_file import Entry, Policy, PolicyFault, read_policy
 from sota_files import Network, read_network
 
 # Three nodes; 1 to 2 takes 1 tick; 2 to 3 takes 1 or 3, 1 to 3 takes 2 or 5.
@@ -84,9 +84,8 @@ class PolicyFiles(ToolCase):
             found = [(t, entry.arc, entry.lower) for t, entry in policy.entries(1)]
             self.assertEqual(found, [(2, 1, 5 * 10**17), (3, 3, 75 * 10**16)])
             self.assertEqual([policy.entry(1, 1), policy.entry(3, 0)], [None, None])
-            entry = policy.entry(2, 1)
             upper = None if version == 1 else 5 * 10**17
-            self.assertEqual((entry.arc, entry.upper), (2, upper))
+            self.assertEqual(policy.entry(2, 1), Entry(2, 5 * 10**17, upper))
 
     def test_faults_have_their_place(self) -> None:
         for data, cause, place, offset in FAULTS:
@@ -172,7 +171,7 @@ arrived at 3 with 0 ticks left
     def test_the_trip_is_the_likeliest(self) -> None:
         path = self.file("plan", reference.policy_bytes(self.town, 1, 3, 70))
         policy = read_policy(path)
-        steps = read_plan.likeliest_trip(policy, self.town)
+        steps = read_plan.likeliest_trip(policy, self.town) or []
         self.assertEqual(probability(self.town, steps), best_by_trying(policy, self.town))
 
     def test_a_plan_that_cannot_arrive(self) -> None:
@@ -195,8 +194,8 @@ arrived at 3 with 0 ticks left
         self.assertEqual(self.show(FIRST, "--node", "Depot")[0], 2)
         self.assertEqual(self.show(FIRST, "--node", "9")[0], 2)
         status, _, err = self.show(FIRST[:-1])
-        said = f"{self.folder}/plan: at byte 92: the file ends too soon (Truncated 92)\n"
-        self.assertEqual((status, err), (1, said))
+        expected = f"{self.folder}/plan: at byte 92: the file ends too soon (Truncated 92)\n"
+        self.assertEqual((status, err), (1, expected))
 
     @unittest.skipUnless(BUILT.exists(), "the program is not built")
     def test_the_program_writes_as_the_reference(self) -> None:

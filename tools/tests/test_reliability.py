@@ -65,7 +65,7 @@ To be 90 % sure, allow 405 s.
         self.assertEqual(err, "the ask from 1 to 99: no such node to arrive at (NoDest)\n")
         bad = self.file("h.csv", "arc,tick,mass/4\n1,1\n")
         _, _, err = self.show(TOWN[0], bad, 1, 3, 5, 6)
-        self.assertEqual(err, f"{bad}: the program refuses it: Sum at 1\n")
+        self.assertEqual(err, f"{bad}: the program refuses it: Sum (arc 1)\n")
         _, _, err = self.town(60, 61, "--edits", self.file("e", "ask 1 2 3\n"))
         self.assertEqual(err, f"{edits}:1: no line of this file begins with 'edit' or 'close'\n")
 

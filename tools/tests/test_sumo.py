@@ -78,6 +78,12 @@ class Sumo(ToolCase):
     def test_gzip_and_class(self) -> None:
         packed = self.file("routes.xml.gz", gzip.compress(ROUTES.encode()))
         self.assertEqual(self.make("--routes", packed)[0], 0)
+        broken = bytearray(gzip.compress(ROUTES.encode()))
+        broken[40:60] = bytes(20)
+        for data in (b"xyz", bytes(broken), gzip.compress(ROUTES.encode())[:99]):
+            status, _, err = self.make("--routes", self.file("broken.xml.gz", data))
+            self.assertEqual(status, 1)
+            self.assertRegex(err, "broken.xml.gz(: not gzip|:[0-9]+: not XML)")
         status, _, err = self.make("--routes", packed, "--class", "bus")
         self.assertEqual(status, 0, err)
         self.assertIn("p sp 3 4\n", self.written(".gr"))

@@ -8,7 +8,8 @@ from fractions import Fraction
 from helpers import EXAMPLES, ToolCase
 
 import roads_from_trips
-from sota_files import BadData, Network, id_order, masses, median, percent, read_ids, read_network
+from observed_roads import id_order, masses, median, ticks
+from sota_files import BadData, Network, percent, read_ids, read_network
 
 SMALL = """road,from,to,seconds
 r2,B,C,4.4
@@ -67,7 +68,7 @@ class Trips(ToolCase):
         status, out, err = self.make(wrong)
         self.assertEqual((status, out), (1, ""))
         trips = self.folder / "trips.csv"
-        said = [
+        expected = [
             f"{trips}:6: road r2 goes from B to A here, but from B to C on line 2",
             f"{trips}:8: the column 'to' is empty",
             f"{trips}:9: 'fast' is no number of seconds (such as 48 or 48.5)",
@@ -76,7 +77,7 @@ class Trips(ToolCase):
             f"{trips}:12: '1e9' is no number of seconds (such as 48 or 48.5)",
             "nothing was written",
         ]
-        self.assertEqual(err.splitlines(), said)
+        self.assertEqual(err.splitlines(), expected)
         self.assertFalse((self.folder / "net.gr").exists())
 
     def test_files_that_are_no_trips(self) -> None:
@@ -108,7 +109,9 @@ class Trips(ToolCase):
 
     def test_times_that_lose_their_mass_are_told(self) -> None:
         status, _, err = self.make(SMALL, "--scale", 2, "--few", 0)
-        self.assertEqual((status, err), (0, "road r2: 1 observed times have no mass at Q 2\n"))
+        self.assertEqual(
+            (status, err), (0, "road r2 from B to C: 1 of its times have no mass at Q 2\n")
+        )
 
     def test_the_example_city_is_remade(self) -> None:
         network = city()
@@ -138,12 +141,12 @@ class Shared(unittest.TestCase):
 
     def test_ticks_are_the_nearest_even_of_two_and_one_at_least(self) -> None:
         for seconds, tick, found in ((0, 1, 1), (14, 10, 1), (15, 10, 2), (25, 10, 2), (26, 10, 3)):
-            made = roads_from_trips.ticks(Fraction(seconds), Fraction(tick))
+            made = ticks(Fraction(seconds), Fraction(tick))
             self.assertEqual(made, found)
 
     def test_median_order_and_percent(self) -> None:
         self.assertEqual(median(Counter({5: 2, 9: 1, 20: 1})), 5)
-        names = ["9", "10", "J2", "J10", "b"]
+        names = ["9", "10", "J", "J2", "J2b", "J10", "J11" + "0" * 5000, "b"]
         self.assertEqual(sorted(reversed(names), key=id_order), names)
         self.assertEqual(percent(999_999_999_999_999_999), "99.9 %")
         self.assertEqual([percent(1), percent(0)], ["below 0.1 %", "0.0 %"])
