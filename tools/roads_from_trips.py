@@ -75,7 +75,9 @@ def read_trips(path: str, tick: Fraction) -> list[Road]:
     line, header = first_record(records)
     missing = [column for column in COLUMNS if header.count(column) != 1]
     if missing:
-        raise BadData(at(path, line, f"the header does not name once: {', '.join(missing)}"))
+        names = ", ".join(missing)
+        words = f"the header does not name once: {names} (columns are parted by commas)"
+        raise BadData(at(path, line, words))
     places = [header.index(column) for column in COLUMNS]
     reader = Reader(tick)
     faults = []
