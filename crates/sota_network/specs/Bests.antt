@@ -15,7 +15,8 @@ table_sum values nodes t arc = plain_sum arc (in_table values nodes) t
 
 -- for each node the greatest worth among the arcs that leave it, and the first arc that has it
 abbrev pub bests_of : ℕ → List Arc → (Arc → ℕ) → List Best
-bests_of nodes arcs worth = listed (λ i. record { sum = best_of arcs worth i; arc = choice_of arcs worth i }) nodes
+bests_of nodes arcs worth =
+    listed (λ i. record { sum = best_of arcs worth i; arc = choice_of arcs worth i }) nodes
 
 -- no arc
 abbrev pub no_best : Best
@@ -28,7 +29,8 @@ rounded Up = ceiling_by
 
 -- the value of node i
 abbrev pub settled : Rounding → ℕ → ℕ → List Best → ℕ → ℕ
-settled rounding scale dest bests i = if i == dest then ONE else rounded rounding scale (slice_index_or bests (i - 1) no_best).sum
+settled rounding scale dest bests i =
+    if i == dest then ONE else rounded rounding scale (slice_index_or bests (i - 1) no_best).sum
 
 -- the choice of node i
 abbrev pub chosen : ℕ → List Best → ℕ → Option ℕ

@@ -3,7 +3,8 @@ use Rattle.std.specs.Prelude.{[], ◌∷◌}
 use Rattle.sota_network.specs.Network.{Net}
 use Rattle.sota_network.specs.Trees.{Tree, stop, go, no_trees, tree_then}
 
--- from 1 to 3 by way of 2 in 2 or 4 ticks, each with the chance 2/4, or straight in 3 ticks with the chance 3/4, else in 5
+-- from 1 to 3 by way of 2 in 2 or 4 ticks, each with the chance 2/4, or straight in 3 ticks with
+-- the chance 3/4, else in 5
 abbrev pub triangle : Net
 triangle = record {
   nodes = 3;
@@ -20,7 +21,10 @@ abbrev pub chain : Net
 chain = record {
   nodes = 3;
   scale = 3;
-  arcs = record { tail = 1; head = 2; time = (1, 1) ∷ (9, 2) ∷ [] } ∷ record { tail = 2; head = 3; time = (1, 1) ∷ (9, 2) ∷ [] } ∷ [];
+  arcs =
+      record { tail = 1; head = 2; time = (1, 1) ∷ (9, 2) ∷ [] }
+      ∷ record { tail = 2; head = 3; time = (1, 1) ∷ (9, 2) ∷ [] }
+      ∷ [];
 }
 
 -- both roads of the chain, whatever their times
@@ -29,7 +33,8 @@ chain_tree =
     go 1 (tree_then (go 2 (tree_then stop (tree_then stop no_trees)))
     (tree_then (go 2 (tree_then stop (tree_then stop no_trees))) no_trees))
 
--- a first road of 1 or 2 ticks, and then a road that takes 1 tick or is too late, or one that takes 2 for certain
+-- a first road of 1 or 2 ticks, and then a road that takes 1 tick or is too late, or one that takes
+-- 2 for certain
 abbrev pub fork : Net
 fork = record {
   nodes = 3;
@@ -46,14 +51,19 @@ abbrev pub late_route : Tree
 late_route = chain_tree
 
 abbrev pub certain_route : Tree
-certain_route = go 1 (tree_then (go 3 (tree_then stop no_trees)) (tree_then (go 3 (tree_then stop no_trees)) no_trees))
+certain_route =
+    go 1 (tree_then (go 3 (tree_then stop no_trees))
+    (tree_then (go 3 (tree_then stop no_trees)) no_trees))
 
 -- two roads side by side that take 5 ticks
 abbrev pub twins : Net
 twins = record {
   nodes = 2;
   scale = 1;
-  arcs = record { tail = 1; head = 2; time = (5, 1) ∷ [] } ∷ record { tail = 1; head = 2; time = (5, 1) ∷ [] } ∷ [];
+  arcs =
+      record { tail = 1; head = 2; time = (5, 1) ∷ [] }
+      ∷ record { tail = 1; head = 2; time = (5, 1) ∷ [] }
+      ∷ [];
 }
 
 -- a bridge that is passed in 5 ticks with the chance 3/4, and else never

@@ -1,6 +1,8 @@
--- The grid: for each node and budget two bounds of the on-time probability in units of ten to the minus eighteenth, and
--- an arc to take. It is a plain recursion over all nodes and budgets, with the two roundings outward.
-use Rattle.std.specs.Prelude.{ℕ, zero, suc, ◌-◌, ◌*◌, max, ◌==◌, ◌&&◌, List, [], ◌∷◌, map, Option, None, if◌then◌else◌}
+-- The grid: for each node and budget two bounds of the on-time probability in units of ten to the
+-- minus eighteenth, and an arc to take. It is a plain recursion over all nodes and budgets, with
+-- the two roundings outward.
+use Rattle.std.specs.Prelude.{ℕ, zero, suc, ◌-◌, ◌*◌, max, ◌==◌, ◌&&◌, List, [], ◌∷◌, map}
+use Rattle.std.specs.Prelude.{Option, None, if◌then◌else◌}
 use Rattle.std.specs.List.{sum_by, filter}
 use Rattle.sota_units.specs.Rounding.{ONE, floor_by, ceiling_by}
 use Rattle.sota_hist.specs.Time.{within}
@@ -8,8 +10,8 @@ use Rattle.sota_network.specs.Network.{Net}
 use Rattle.sota_network.specs.Numbers.{first_number}
 use Rattle.sota_network.specs.declared.network.Arc.{Arc}
 
--- the sum of each mass times the value at the budget that its tick leaves, over the pairs within the budget: the others
--- arrive late
+-- the sum of each mass times the value at the budget that its tick leaves, over the pairs within
+-- the budget: the others arrive late
 abbrev pub weighed : (ℕ → ℕ) → ℕ → List (ℕ × ℕ) → ℕ
 weighed v t pairs = sum_by (λ p. p.1 * v (t - p.0)) (within t pairs)
 
@@ -34,8 +36,8 @@ best_of arcs worth i = greatest (map worth (leaving i arcs))
 abbrev pub best_sum : Net → (ℕ → ℕ → ℕ) → ℕ → ℕ → ℕ
 best_sum net f i t = best_of net.arcs (λ arc. plain_sum arc f t) i
 
--- the value of node i at budget t, where `f` has the values at smaller budgets: who stands at the destination has arrived,
--- and from elsewhere the best arc is taken
+-- the value of node i at budget t, where `f` has the values at smaller budgets: who stands at the
+-- destination has arrived, and from elsewhere the best arc is taken
 abbrev pub value_from : (ℕ → ℕ → ℕ) → Net → ℕ → (ℕ → ℕ → ℕ) → ℕ → ℕ → ℕ
 value_from round net dest f i t = if i == dest then ONE else round net.scale (best_sum net f i t)
 
@@ -44,8 +46,9 @@ abbrev pub repeated : {X : Type 0} → X → ((ℕ → ℕ → X) → ℕ → �
 repeated x step zero i t = x
 repeated x step (suc k) i t = step (repeated x step k) i t
 
--- what a step settles that says what stands at node i and budget t from what stands at smaller budgets: each tick is at
--- least 1, so t + 1 times are enough. That it satisfies the step at every node and budget is proved by `grid_recurs`
+-- what a step settles that says what stands at node i and budget t from what stands at smaller
+-- budgets: each tick is at least 1, so t + 1 times are enough. That it satisfies the step at every
+-- node and budget is proved by `grid_recurs`
 unfoldable pub by_budget : {X : Type 0} → X → ((ℕ → ℕ → X) → ℕ → ℕ → X) → ℕ → ℕ → X
 by_budget x step i t = repeated x step (suc t) i t
 
@@ -57,7 +60,8 @@ lo net dest i t = by_budget 0 (value_from floor_by net dest) i t
 unfoldable pub hi : Net → ℕ → ℕ → ℕ → ℕ
 hi net dest i t = by_budget 0 (value_from ceiling_by net dest) i t
 
--- the least number of an arc that leaves node i and has the greatest worth there, none where that is 0
+-- the least number of an arc that leaves node i and has the greatest worth there, none where that
+-- is 0
 abbrev pub choice_of : List Arc → (Arc → ℕ) → ℕ → Option ℕ
 choice_of arcs worth i =
     if best_of arcs worth i == 0 then None else
@@ -65,4 +69,5 @@ choice_of arcs worth i =
 
 -- the arc to take from node i at budget t, by the lower values: none at the destination
 unfoldable pub choice : Net → ℕ → ℕ → ℕ → Option ℕ
-choice net dest i t = if i == dest then None else choice_of net.arcs (λ arc. plain_sum arc (lo net dest) t) i
+choice net dest i t =
+    if i == dest then None else choice_of net.arcs (λ arc. plain_sum arc (lo net dest) t) i

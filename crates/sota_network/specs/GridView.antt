@@ -1,5 +1,6 @@
 -- Tables of a grid up to a budget.
-use Rattle.std.specs.Prelude.{ℕ, ◌≡◌, ◌+◌, ◌-◌, ◌*◌, ◌≤◌, List, slice_index, slice_index_or, Option, None}
+use Rattle.std.specs.Prelude.{ℕ, ◌≡◌, ◌+◌, ◌-◌, ◌*◌, ◌≤◌, List}
+use Rattle.std.specs.Prelude.{slice_index, slice_index_or, Option, None}
 use Rattle.sota_network.specs.Network.{Net, IsNode}
 use Rattle.sota_network.specs.Grid.{lo, hi, choice}
 

@@ -1,12 +1,12 @@
 -- Road networks whose arcs take a random number of ticks, or are never passed.
-use Rattle.std.specs.Prelude.{ℕ, zero, suc, ◌≡◌, ◌≤◌, List, slice_get, slice_set, Option, None, Some}
+use Rattle.std.specs.Prelude.{ℕ, zero, suc, ◌≤◌, List, slice_get, slice_set, Option, None, Some}
 use Rattle.std.specs.List.{All}
 use Rattle.sota_hist.specs.Time.{IsTime, total}
 use Rattle.sota_network.specs.declared.network.Arc.{Arc}
 
--- a network: nodes are numbered from 1 to `nodes`, and arcs from 1 in the order of the list. A mass m
--- of an arc's time stands for the chance m / scale. Self-loops and parallel arcs are arcs like all
--- others
+-- a network: nodes are numbered from 1 to `nodes`, and arcs from 1 in the order of the list. A mass
+-- m of an arc's time stands for the chance m / scale. Self-loops and parallel arcs are arcs like
+-- all others
 pub record Net : Type 0 where
   pub nodes : ℕ
   pub scale : ℕ

@@ -1,5 +1,6 @@
 -- The items of a list by their numbers, as arcs are numbered.
-use Rattle.std.specs.Prelude.{ℕ, zero, suc, Bool, List, [], ◌∷◌, ◌++◌, Option, None, Some, if◌then◌else◌}
+use Rattle.std.specs.Prelude.{ℕ, zero, suc, Bool, List, [], ◌∷◌, ◌++◌, Option, None, Some}
+use Rattle.std.specs.Prelude.{if◌then◌else◌}
 
 -- the numbers of the items that pass, rising, where the first item has the number n
 abbrev pub numbers : {X : Type 0} → (X → Bool) → ℕ → List X → List ℕ

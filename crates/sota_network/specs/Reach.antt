@@ -1,5 +1,5 @@
--- Which nodes are reached within a budget, as a function that computes. `reaches_by_walks` says what
--- it has to do with walks.
+-- Which nodes are reached within a budget, as a function that computes. `reaches_by_walks` says
+-- what it has to do with walks.
 use Rattle.std.specs.Prelude.{ℕ, ◌-◌, ◌==◌, ◌&&◌, ◌||◌, not, nat_le, Bool, false}
 use Rattle.std.specs.List.{list_any}
 use Rattle.sota_hist.specs.Time.{is_closed, least_tick}
@@ -7,8 +7,8 @@ use Rattle.sota_network.specs.Network.{Net}
 use Rattle.sota_network.specs.Grid.{by_budget}
 use Rattle.sota_network.specs.declared.network.Arc.{Arc}
 
--- an open arc that leaves node i, where i is not the destination, and is taken in its least time, with
--- `f` from its head on
+-- an open arc that leaves node i, where i is not the destination, and is taken in its least time,
+-- with `f` from its head on
 abbrev pub goes_on : ℕ → (ℕ → ℕ → Bool) → ℕ → ℕ → Arc → Bool
 goes_on dest f i t arc =
     (arc.tail == i)
@@ -25,8 +25,8 @@ unfoldable pub reaches : Net → ℕ → ℕ → ℕ → ℕ → Bool
 reaches net dest j i t = by_budget false (reach_step net dest j) i t
 
 -- node i with t ticks left belongs to the region of an ask: the destination can be reached in time,
--- and an origin that began with the whole budget can have come so far. Nothing else can matter to the
--- ask
+-- and an origin that began with the whole budget can have come so far. Nothing else can matter to
+-- the ask
 abbrev pub in_region : Net → ℕ → ℕ → ℕ → ℕ → ℕ → Bool
 in_region net origin dest last i t =
     not (i == dest)

@@ -3,8 +3,8 @@ use Rattle.std.specs.Prelude.{ℕ, ◌≡◌, ◌-◌, ◌≤◌, slice_get, Som
 use Rattle.sota_network.specs.Network.{Net, arc_at}
 use Rattle.sota_network.specs.declared.network.Arc.{Arc}
 
--- the entry of node i at budget t reads that of node j at budget u: an arc goes from i to j, and one of
--- its pairs within the budget leaves u
+-- the entry of node i at budget t reads that of node j at budget u: an arc goes from i to j, and
+-- one of its pairs within the budget leaves u
 pub record Reads (net : Net) (i t j u : ℕ) : Type 0 where
   pub number : ℕ
   pub arc : Arc

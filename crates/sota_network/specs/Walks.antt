@@ -4,8 +4,8 @@ use Rattle.sota_hist.specs.Time.{is_closed, least_tick}
 use Rattle.sota_network.specs.Network.{Net, arc_at}
 use Rattle.sota_network.specs.declared.network.Arc.{Arc}
 
--- a walk from one node to another with the sum of the least ticks of its arcs, all of them open. None
--- of them leaves the destination, since who stands there has arrived
+-- a walk from one node to another with the sum of the least ticks of its arcs, all of them open.
+-- None of them leaves the destination, since who stands there has arrived
 pub data Walk (net : Net) (dest : ℕ) : ℕ → ℕ → ℕ → Type 0 where
   empty : {i : ℕ} → Walk net dest i i 0
   step : {j n : ℕ} (e : ℕ) (arc : Arc) → arc_at net e ≡ Some arc → arc.tail ≢ dest

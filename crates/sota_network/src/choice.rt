@@ -17,7 +17,10 @@ impl Model for Choice {
 
     ghost view = { λ a. if a.number == 0 then None else Some a.number };
 
-    ghost inverse = { λ choice. elim choice [ None ↦ record { number = 0 } | Some number ↦ record { number = number } ] };
+    ghost inverse = { λ choice. elim choice [
+      | None ↦ record { number = 0 }
+      | Some number ↦ record { number = number }
+    ] };
 }
 
 impl Choice {

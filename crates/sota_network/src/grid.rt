@@ -6,8 +6,9 @@ use crate::choice::Choice;
 use sota_units::{ArcId, Grain, NodeId};
 use std::marker::Model;
 
-/// The lower and upper values and the choices of all nodes towards a destination, at each budget up to a last one. It
-/// takes 20 bytes a node and budget: rows of one entry a node stand one behind the other, by rising budget.
+/// The lower and upper values and the choices of all nodes towards a destination, at each budget up
+/// to a last one. It takes 20 bytes a node and budget: rows of one entry a node stand one behind
+/// the other, by rising budget.
 #[derive(Drop)]
 pub struct Grid {
     pub(crate) nodes: u32,

@@ -1,4 +1,5 @@
-//! Road networks with random travel times, what a decision tree on them is worth, and the plain planner of the grid.
+//! Road networks with random travel times, what a decision tree on them is worth, and the plain
+//! planner of the grid.
 #![tactic(auto)]
 
 mod adjacency;

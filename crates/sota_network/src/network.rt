@@ -1,5 +1,6 @@
 // Networks and their views.
-ghost use Rattle.std.specs.Prelude.{ℕ, ◌≡◌, ◌≤◌, ◌==◌, ◌↔◌, List, length, IfErr, IfOk, IsSome, None, OnErr, OnOk, Option, Some};
+ghost use Rattle.std.specs.Prelude.{◌≡◌, ◌≤◌, ◌==◌, ◌↔◌, length, None, Some};
+ghost use Rattle.std.specs.Prelude.{IfErr, IfOk, IsSome, OnErr, OnOk};
 ghost use Rattle.std.specs.Option.{option_copied, option_map};
 ghost use Rattle.sota_units.specs.Limits.{NODE_LIMIT, ARC_LIMIT};
 ghost use Rattle.sota_hist.specs.Time.{total};
@@ -47,7 +48,9 @@ impl Model for Network {
 
     ghost view = { λ a. record { nodes = a.nodes; scale = a.scale; arcs = a.arcs.items } };
 
-    ghost invariant = { λ a. IsIndexed (record { nodes = a.nodes; scale = a.scale; arcs = a.arcs.items }) a.leaving a.entering };
+    ghost invariant = { λ a.
+        IsIndexed (record { nodes = a.nodes; scale = a.scale; arcs = a.arcs.items })
+        a.leaving a.entering };
 }
 
 impl Network {
@@ -62,7 +65,8 @@ impl Network {
         requires nodes { (1 ≤ nodes) × (nodes ≤ NODE_LIMIT) }
         requires arcs { length arcs.items ≤ ARC_LIMIT }
         requires valid { IsNet (record { nodes = nodes; scale = scale; arcs = arcs.items }) }
-        ensures value { IfOk result (λ network. network ≡ record { nodes = nodes; scale = scale; arcs = arcs.items }) }
+        ensures value { IfOk result (λ network. network
+            ≡ record { nodes = nodes; scale = scale; arcs = arcs.items }) }
         ensures valid { IfOk result (λ network. IsNet network) }
     {
         let leaving = Adjacency::build(alloc, nodes, &arcs, End::Tail)?;
@@ -141,7 +145,8 @@ impl Network {
     /// not from 1 to the number of arcs. It takes no memory.
     pub fn replace(&mut self, arc: ArcId, time: Histogram) -> Result<Histogram, NoArc>
         requires total { total time ≤ self.old.scale }
-        ensures old { IfOk result (λ old. option_map (λ arc. arc.time) (arc_at self.old arc) ≡ Some old) }
+        ensures old { IfOk result (λ old.
+            option_map (λ arc. arc.time) (arc_at self.old arc) ≡ Some old) }
         ensures replaced { OnOk result (self.new ≡ replaced self.old arc time) }
         ensures no_arc { IfErr result (λ refused. arc_at self.old arc ≡ None) }
         ensures handed_back { IfErr result (λ refused. refused.time ≡ time) }

@@ -1,6 +1,6 @@
 // The plain planner. It makes every entry from its definition, budget by budget, and is the slow
 // partner of the others.
-ghost use Rattle.std.specs.Prelude.{ℕ, ◌≡◌, ◌+◌, ◌*◌, ◌≤◌, ◌==◌, ◌++◌, length, Option, None, IfOk, OnOk, if◌then◌else◌};
+ghost use Rattle.std.specs.Prelude.{◌≡◌, ◌*◌, ◌≤◌, ◌++◌, nat_lt, length, IfOk, OnOk};
 ghost use Rattle.std.specs.List.{All};
 ghost use Rattle.sota_units.specs.Rounding.{ONE};
 ghost use Rattle.sota_units.specs.Limits.{NODE_LIMIT, BUDGET_LIMIT};
@@ -16,8 +16,8 @@ use crate::network::{Arc, Network};
 use sota_units::{ArcId, Grain, Heft, NoMemory, NodeId, Scale};
 use std::alloc::Global;
 
-/// The grid of a network towards a node, at each budget from 0 up to the given one in ticks: at most
-/// 65,535. Its work is linear in the pairs of all arcs times the budget.
+/// The grid of a network towards a node, at each budget from 0 up to the given one in ticks: at
+/// most 65,535. Its work is linear in the pairs of all arcs times the budget.
 pub fn plain_grid(
     alloc: Global,
     network: &Network,
@@ -49,8 +49,8 @@ pub fn plain_grid(
     })
 }
 
-/// The greatest plain sum among the arcs that leave a node, and the first arc that has it: none where
-/// it is 0.
+/// The greatest plain sum among the arcs that leave a node, and the first arc that has it: none
+/// where it is 0.
 #[derive(Clone, Copy)]
 struct Best {
     sum: Heft,
@@ -63,6 +63,13 @@ impl Best {
         sum: Heft::ZERO,
         arc: Choice::NONE,
     };
+
+    /// Whether a sum is above this one. Of equals the first arc stays.
+    fn is_below(&self, sum: Heft) -> bool
+        ensures { result ≡ nat_lt self.now.sum sum }
+    {
+        self.sum < sum
+    }
 }
 
 /// Which way a sum is rounded to a value.
@@ -86,8 +93,11 @@ fn push_row(
     requires full { length values.old.items ≡ budget * network.now.nodes }
     requires nodes { length bests.old ≡ network.now.nodes }
     requires within { network.now.nodes ≤ NODE_LIMIT }
-    ensures bests { bests.new ≡ bests_of network.now.nodes network.now.arcs (table_sum values.old.items network.now.nodes budget) }
-    ensures values { OnOk result (values.new.items ≡ values.old.items ++ listed (settled rounding network.now.scale dest bests.new) network.now.nodes) }
+    ensures bests { bests.new ≡ bests_of network.now.nodes network.now.arcs
+        (table_sum values.old.items network.now.nodes budget) }
+    ensures values { OnOk result (values.new.items
+        ≡ values.old.items
+        ++ listed (settled rounding network.now.scale dest bests.new) network.now.nodes) }
 {
     let scale = network.scale();
     find_bests(network, values, budget, bests);
@@ -99,7 +109,8 @@ fn find_bests(network: &Network, values: &[Grain], budget: u32, bests: &mut [Bes
     requires valid { IsNet network.now }
     requires full { length values.now ≡ budget * network.now.nodes }
     requires nodes { length bests.old ≡ network.now.nodes }
-    ensures bests { bests.new ≡ bests_of network.now.nodes network.now.arcs (table_sum values.now network.now.nodes budget) }
+    ensures bests { bests.new ≡ bests_of network.now.nodes network.now.arcs
+        (table_sum values.now network.now.nodes budget) }
     ensures within { All (λ best. best.sum ≤ network.now.scale * ONE) bests.new }
 {
     let nodes = network.nodes();
@@ -107,7 +118,7 @@ fn find_bests(network: &Network, values: &[Grain], budget: u32, bests: &mut [Bes
     for (index, arc) in network.arcs().iter().enumerate() {
         let sum = arc_sum(arc, nodes, values, budget);
         let best = &mut bests[arc.tail.get() as usize - 1];
-        if best.sum < sum {
+        if best.is_below(sum) {
             *best = Best {
                 sum,
                 arc: Choice::new(ArcId(index as u32 + 1)),
@@ -144,7 +155,9 @@ fn push_values(
 ) -> Result<(), NoMemory>
     requires within { All (λ best. best.sum ≤ scale * ONE) bests.now }
     requires nodes { length bests.now ≤ NODE_LIMIT }
-    ensures { OnOk result (values.new.items ≡ values.old.items ++ listed (settled rounding scale dest bests.now) (length bests.now)) }
+    ensures { OnOk result (values.new.items
+        ≡ values.old.items
+        ++ listed (settled rounding scale dest bests.now) (length bests.now)) }
 {
     for (index, best) in bests.iter().enumerate() {
         let value = if index as u32 + 1 == dest.get() {
@@ -171,7 +184,8 @@ fn rounded(sum: Heft, scale: Scale, rounding: Rounding) -> Grain
 /// Appends the choices of all nodes at one budget.
 fn push_choices(choices: &mut Vec<Choice>, bests: &[Best], dest: NodeId) -> Result<(), NoMemory>
     requires { length bests.now ≤ NODE_LIMIT }
-    ensures { OnOk result (choices.new.items ≡ choices.old.items ++ listed (chosen dest bests.now) (length bests.now)) }
+    ensures { OnOk result (choices.new.items
+        ≡ choices.old.items ++ listed (chosen dest bests.now) (length bests.now)) }
 {
     for (index, best) in bests.iter().enumerate() {
         let choice = if index as u32 + 1 == dest.get() {

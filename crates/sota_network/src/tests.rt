@@ -1,16 +1,18 @@
-// Each call once with ample memory, on a network of certain times.
+// Each call once with ample memory, on a network of certain times and on one that loses mass.
 ghost use Rattle.std.specs.Prelude.{◌≡◌, ◌≤◌, ◌∷◌, [], IfOk};
 
 use crate::{Arc, Grid, Network, plain_grid};
 use sota_hist::Histogram;
-use sota_units::{ArcId, Grain, NoMemory, NodeId, Scale, Tick};
+use sota_units::{ArcId, Grain, Mass, NoMemory, NodeId, Scale, Tick};
 use std::alloc::Global;
 use std::test::Fail;
 
 /// An arc that takes the same time always.
 fn certain_arc(alloc: Global, tail: u32, head: u32, tick: u32) -> Result<Arc, NoMemory>
     requires { 1 ≤ tick }
-    ensures { IfOk result (λ arc. arc ≡ record { tail = tail; head = head; time = (tick, 1) ∷ [] }) }
+    ensures tail { IfOk result (λ arc. arc.tail ≡ tail) }
+    ensures head { IfOk result (λ arc. arc.head ≡ head) }
+    ensures time { IfOk result (λ arc. arc.time ≡ (tick, 1) ∷ []) }
 {
     let time = Histogram::certain(alloc, Scale::ONE, Tick(tick))?;
     Ok(Arc {
@@ -60,6 +62,20 @@ fn has_entries(grid: &Grid) -> bool
         && grid.choice(NodeId(1), 2) == Some(ArcId(1))
 }
 
+/// A bridge from 1 to 2 that takes 5 ticks with the chance 3/4, and else never ends.
+fn bridge(alloc: Global) -> Result<Network, NoMemory>
+    ensures nodes { IfOk result (λ network. network.nodes ≡ 2) }
+{
+    let mut arcs = Vec::new(alloc);
+    arcs.push(Arc {
+        tail: NodeId(1),
+        head: NodeId(2),
+        time: Histogram::from_rising(alloc, &[(Tick(5), Mass(3))])?,
+    })?;
+    let scale = Scale::new(4).unwrap_or(Scale::ONE);
+    Network::build(alloc, 2, scale, arcs)
+}
+
 #[test]
 fn plans_certain_times(rt: HostRuntime) -> Result<(), Fail> {
     let network = certain_triangle(rt.alloc())?;
@@ -69,17 +85,21 @@ fn plans_certain_times(rt: HostRuntime) -> Result<(), Fail> {
     Ok(())
 }
 
+// What is worth 3/4 at 9 ticks is worth nothing once it is closed.
 #[test]
-fn replaces_a_time(rt: HostRuntime) -> Result<(), Fail> {
-    let mut network = certain_triangle(rt.alloc())?;
-    let quick = Histogram::certain(rt.alloc(), Scale::ONE, Tick(2))?;
-    let old = network.replace(ArcId(4), quick).ok().ok_or("an arc")?;
-    assert_eq!(rt; old.least(), Tick(3));
-    assert!(rt;
-        network
-            .arc(ArcId(4))
-            .is_some_and(|arc| arc.time.least() == Tick(2))
-    );
+fn loses_mass(rt: HostRuntime) -> Result<(), Fail> {
+    let mut network = bridge(rt.alloc())?;
+    let grid = plain_grid(rt.alloc(), &network, NodeId(2), 9)?;
+    assert_eq!(rt; grid.lower(NodeId(1), 9).get(), 750_000_000_000_000_000);
+    assert_eq!(rt; grid.upper(NodeId(1), 9).get(), 750_000_000_000_000_000);
+    let old = network
+        .replace(ArcId(1), Histogram::closed(rt.alloc()))
+        .ok()
+        .ok_or("an arc")?;
+    assert!(rt; old.pairs() == [(Tick(5), Mass(3))].as_slice());
+    let grid = plain_grid(rt.alloc(), &network, NodeId(2), 9)?;
+    assert_eq!(rt; grid.upper(NodeId(1), 9).get(), 0);
+    assert!(rt; grid.choice(NodeId(1), 9).is_none());
     Ok(())
 }
 

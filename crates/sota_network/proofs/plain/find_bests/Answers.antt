@@ -1,8 +1,7 @@
 -- After k arcs the entry of each node is the best of the first k.
-use Rattle.std.proofs.Common.{ℕ, ◌≡◌, ◌<◌, ◌≤◌, ◌+◌, ◌-◌, ◌*◌, true, false, List, [], ◌∷◌, ◌++◌, length, get_or, arith, take, ap, ◌∙◌, sym, subst, set, replicate, Some, rules}
+use Rattle.std.proofs.Common.{ℕ, ◌≡◌, ◌<◌, ◌≤◌, ◌+◌, ◌-◌, ◌*◌, List, [], ◌∷◌, ◌++◌, length, get_or, arith, take, ap, ◌∙◌, sym, subst, set, replicate, Some, rules}
 use Rattle.std.specs.List.{All}
-use Rattle.std.specs.Ordering.{is_lt, nat_cmp}
-use Rattle.std.proofs.lemmas.Bool.Decides.{nat_tests}
+use Rattle.std.proofs.lemmas.Bool.{ltb-true, ltb-false}
 use Rattle.std.proofs.lemmas.List.{take_more, length-take-le, set-get_or}
 use Rattle.std.proofs.lemmas.List.Elements.{All-more}
 use Rattle.std.proofs.Math.Nat.{mul-le-mul_right}
@@ -17,13 +16,7 @@ use Rattle.sota_network.proofs.Listed.{replicate-listed, listed-at, All-listed}
 use Rattle.sota_network.proofs.Best.{best-bound}
 use Rattle.sota_network.proofs.Bests.{bests-grow, bests-stay}
 use Rattle.sota_network.proofs.plain.find_bests.Goals as goal
-use Rattle.sota_network.proofs.plain.find_bests.Goals.{then-lt, else-lt}
-
-less-from : (x y : ℕ) → is_lt (nat_cmp x y) ≡ true → x < y
-less-from x y h = grind (arith, nat_tests)
-
-le-from : (x y : ℕ) → is_lt (nat_cmp x y) ≡ false → y ≤ x
-le-from x y h = grind (arith, nat_tests)
+use Rattle.sota_network.proofs.plain.find_bests.Goals.{then-is_below, else-is_below}
 
 pub loop-index-init : goal.loop-index-init
 loop-index-init c =
@@ -35,7 +28,7 @@ loop-index-init c =
     }
 
 -- the arc that the loop has come to
-item-valid : (c : goal.Joined-lt) → IsArc c.args.network.now c.arc-item.result
+item-valid : (c : goal.Joined-is_below) → IsArc c.args.network.now c.arc-item.result
 item-valid c =
     let net : Net = c.args.network.now in
     let all : All (IsArc net) c.arcs-arc-items.result.now = subst (λ (arcs : List Arc). All (IsArc net) arcs) (sym c.arcs-arc-items.ensures.value) c.requires.valid.arcs in
@@ -65,9 +58,9 @@ loop-index-preserved c =
     ∙ listed-at (λ i. record { sum = best_of (take k arcs) P i; arc = choice_of (take k arcs) P i }) n a.tail c.index-bests-get.result low high in
     let old-sum : c.index-bests-get.result.sum ≡ best_of (take k arcs) P a.tail = ap (λ (b : Best). b.sum) old in
     let was : (get_or c.loop-index.bests (c.get.result - 1) c.index-bests-get.result).sum ≡ best_of (take k arcs) P a.tail = ap (λ (b : Best). b.sum) (sym c.index-bests-get.is) ∙ old-sum in
-    elim c.if-lt.branch [
-      | then-lt w ↦
-          let less = less-from (get_or c.loop-index.bests (c.get.result - 1) c.index-bests-get.result).sum c.arc_sum-sum.result (sym c.lt.ensures ∙ w.if-lt.true) in
+    elim c.if-is_below.branch [
+      | then-is_below w ↦
+          let less = ltb-true (get_or c.loop-index.bests (c.get.result - 1) c.index-bests-get.result).sum c.arc_sum-sum.result (sym c.is_below.ensures ∙ w.if-is_below.true) in
           let more : best_of (take k arcs) P a.tail < P a = omega (arith, was, less, c.arc_sum-sum.ensures.value) in
           let grown : set (bests_of n (take k arcs) P) (a.tail - 1) (record { sum = P a; arc = Some (1 + length (take k arcs)) }) ≡ bests_of n (take k arcs ++ a ∷ []) P =
           bests-grow P n (take k arcs) a low high more in
@@ -76,8 +69,8 @@ loop-index-preserved c =
             bests = w.bests-is ∙ (rw (front, c.loop-index.invariant.bests, at, c.arc_sum-sum.ensures.value, w.new.ensures, number) grown);
             within = within;
           }
-      | else-lt w ↦
-          let less = le-from (get_or c.loop-index.bests (c.get.result - 1) c.index-bests-get.result).sum c.arc_sum-sum.result (sym c.lt.ensures ∙ w.if-lt.false) in
+      | else-is_below w ↦
+          let less = ltb-false (get_or c.loop-index.bests (c.get.result - 1) c.index-bests-get.result).sum c.arc_sum-sum.result (sym c.is_below.ensures ∙ w.if-is_below.false) in
           let no-more : P a ≤ best_of (take k arcs) P a.tail = omega (arith, was, less, c.arc_sum-sum.ensures.value) in
           record {
             bests = w.bests-is ∙ set-get_or c.loop-index.bests (c.get.result - 1) c.index-bests-get.result ∙ c.loop-index.invariant.bests ∙ (rw front (bests-stay P n (take k arcs) a no-more));

@@ -1,7 +1,7 @@
 use Rattle.std.proofs.Common.{suc, ◌≡◌, ◌≤◌, ◌-◌, length, slice_get, Some, arith, sym, ap, ◌∙◌, refl}
 use Rattle.std.specs.Option.{option_map}
 use Rattle.std.proofs.lemmas.Option.{slice_get_read}
-use Rattle.sota_hist.specs.Time.{IsTime, total}
+use Rattle.sota_hist.specs.Time.{total}
 use Rattle.sota_network.specs.Network.{Net, arc_at, replaced}
 use Rattle.sota_network.specs.declared.network.Arc.{Arc}
 use Rattle.sota_network.proofs.Replaced.{set-indexed, replaced-at, arc-at}
