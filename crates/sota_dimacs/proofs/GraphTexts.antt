@@ -2,7 +2,8 @@
 use Rattle.std.proofs.Common.{◌≡◌, ℕ, ◌+◌, ◌<◌, ◌≤◌, List, [], ◌∷◌, ◌++◌, Bool, true, false, cond, ◌&&◌, ◌==◌, nat_lt, length, map, filter, All, Option, Some, None, Result, Ok, Err, IfOk, refl, sym, ◌∙◌, ap, subst, arith, append_assoc, append-nil, length-append}
 use Rattle.std.specs.List.{enumerate_from}
 use Rattle.std.proofs.lemmas.List.Elements.{All-nil, All-push, All-head, All-tail}
-use Rattle.sota_dimacs.specs.Graph.{MAX_NODES, MAX_ARCS, is_node, size_fault, arc_fault, fault_or, graph_of, graph_text, text_kinds, IsNode, IsGraph, is_said, graph_lines, IsTextOf}
+use Rattle.sota_units.specs.Limits.{NODE_LIMIT, ARC_LIMIT}
+use Rattle.sota_dimacs.specs.Graph.{is_node, size_fault, arc_fault, fault_or, graph_of, graph_text, text_kinds, IsNode, IsGraph, is_content, graph_lines, IsTextOf}
 use Rattle.sota_dimacs.specs.declared.graph.RawArc.{RawArc}
 use Rattle.sota_dimacs.specs.declared.graph.RawGraph.{RawGraph}
 use Rattle.sota_dimacs.specs.declared.fault.GraphFault.{GraphFault}
@@ -15,14 +16,14 @@ use Rattle.sota_dimacs.proofs.Reading.{rest_of, rest_of_all}
 abbrev pub arc_line : RawArc → LineKind
 arc_line arc = ArcLine (Some arc)
 
--- ---- what lines without a fault have told
+-- ---- what lines without a fault have announced
 
--- a problem within the limits, and arcs of it, no more than it tells
+-- a problem within the limits, and arcs of it, no more than it gives
 pub record Counted (problem : Problem) (arcs : List RawArc) : Type 0 where
   pub some : 1 ≤ problem.nodes
-  pub few_nodes : problem.nodes ≤ MAX_NODES
-  pub few_arcs : problem.arcs ≤ MAX_ARCS
-  pub told : length arcs ≤ problem.arcs
+  pub few_nodes : problem.nodes ≤ NODE_LIMIT
+  pub few_arcs : problem.arcs ≤ ARC_LIMIT
+  pub announced : length arcs ≤ problem.arcs
   pub tails : All (λ (arc : RawArc). IsNode problem.nodes arc.tail) arcs
   pub heads : All (λ (arc : RawArc). IsNode problem.nodes arc.head) arcs
 
@@ -32,13 +33,13 @@ no_fault None rest graph e = (refl, e)
 
 sizes_counted : (number : ℕ) (problem : Problem) → size_fault number problem ≡ None → Counted problem []
 sizes_counted number problem e =
-    elim (problem.nodes == 0) as (λ b. problem.nodes == 0 ≡ b → cond b (Some (BadLine number)) (cond (nat_lt MAX_NODES problem.nodes) (Some (TooManyNodes problem.nodes)) (cond (nat_lt MAX_ARCS problem.arcs) (Some (ArcLimit problem.arcs)) None)) ≡ None → Counted problem []) [
+    elim (problem.nodes == 0) as (λ b. problem.nodes == 0 ≡ b → cond b (Some (BadLine number)) (cond (nat_lt NODE_LIMIT problem.nodes) (Some (TooManyNodes problem.nodes)) (cond (nat_lt ARC_LIMIT problem.arcs) (Some (ArcLimit problem.arcs)) None)) ≡ None → Counted problem []) [
       | true ↦ λ zero e. cc
-      | false ↦ λ zero e. elim (nat_lt MAX_NODES problem.nodes) as (λ b. nat_lt MAX_NODES problem.nodes ≡ b → cond b (Some (TooManyNodes problem.nodes)) (cond (nat_lt MAX_ARCS problem.arcs) (Some (ArcLimit problem.arcs)) None) ≡ None → Counted problem []) [
+      | false ↦ λ zero e. elim (nat_lt NODE_LIMIT problem.nodes) as (λ b. nat_lt NODE_LIMIT problem.nodes ≡ b → cond b (Some (TooManyNodes problem.nodes)) (cond (nat_lt ARC_LIMIT problem.arcs) (Some (ArcLimit problem.arcs)) None) ≡ None → Counted problem []) [
         | true ↦ λ nodes e. cc
-        | false ↦ λ nodes e. elim (nat_lt MAX_ARCS problem.arcs) as (λ b. nat_lt MAX_ARCS problem.arcs ≡ b → cond b (Some (ArcLimit problem.arcs)) None ≡ None → Counted problem []) [
+        | false ↦ λ nodes e. elim (nat_lt ARC_LIMIT problem.arcs) as (λ b. nat_lt ARC_LIMIT problem.arcs ≡ b → cond b (Some (ArcLimit problem.arcs)) None ≡ None → Counted problem []) [
           | true ↦ λ arcs e. cc
-          | false ↦ λ arcs e. record { some = grind arith; few_nodes = grind arith; few_arcs = grind arith; told = omega arith; tails = All-nil _; heads = All-nil _ }
+          | false ↦ λ arcs e. record { some = grind arith; few_nodes = grind arith; few_arcs = grind arith; announced = omega arith; tails = All-nil _; heads = All-nil _ }
         ] refl e
       ] refl e
     ] refl e
@@ -77,91 +78,91 @@ one_more problem arcs arc seen fits = record {
   some = seen.some;
   few_nodes = seen.few_nodes;
   few_arcs = seen.few_arcs;
-  told = omega (arith, length-append arcs (arc ∷ []), fits.room);
+  announced = omega (arith, length-append arcs (arc ∷ []), fits.room);
   tails = All-push (λ (arc : RawArc). IsNode problem.nodes arc.tail) arcs arc seen.tails fits.tail;
   heads = All-push (λ (arc : RawArc). IsNode problem.nodes arc.head) arcs arc seen.heads fits.head;
 }
 
 -- ---- an accepted text is that of its graph
 
--- behind a problem line, the lines that are left are those of more arcs
-pub record Tells (problem : Problem) (arcs : List RawArc) (lines : List LineKind) (graph : RawGraph) (more : List RawArc) : Type 0 where
-  pub said : filter is_said lines ≡ map arc_line more
+-- after a problem line, the lines that are left are those of more arcs
+pub record Gives (problem : Problem) (arcs : List RawArc) (lines : List LineKind) (graph : RawGraph) (more : List RawArc) : Type 0 where
+  pub content : filter is_content lines ≡ map arc_line more
   pub is : graph ≡ record { nodes = problem.nodes; arcs = arcs ++ more }
   pub counted : Counted problem (arcs ++ more)
   pub all : problem.arcs ≤ length (arcs ++ more)
 
-last_tells : (problem : Problem) (arcs : List RawArc) (graph : RawGraph) → Counted problem arcs → graph_of (Some problem) arcs ≡ Ok graph → Tells problem arcs [] graph []
-last_tells problem arcs graph seen e =
-    elim (nat_lt (length arcs) problem.arcs) as (λ b. nat_lt (length arcs) problem.arcs ≡ b → cond b (Err (TooFewArcs (length arcs))) (Ok (record { nodes = problem.nodes; arcs = arcs })) ≡ Ok graph → Tells problem arcs [] graph []) [
+last_gives : (problem : Problem) (arcs : List RawArc) (graph : RawGraph) → Counted problem arcs → graph_of (Some problem) arcs ≡ Ok graph → Gives problem arcs [] graph []
+last_gives problem arcs graph seen e =
+    elim (nat_lt (length arcs) problem.arcs) as (λ b. nat_lt (length arcs) problem.arcs ≡ b → cond b (Err (TooFewArcs (length arcs))) (Ok (record { nodes = problem.nodes; arcs = arcs })) ≡ Ok graph → Gives problem arcs [] graph []) [
       | true ↦ λ few e. cc
       | false ↦ λ few e.
           let enough : problem.arcs ≤ length arcs = grind arith in
           let same : graph ≡ record { nodes = problem.nodes; arcs = arcs } = cc in
           let whole : arcs ++ [] ≡ arcs = append-nil arcs in
-          record { said = refl; is = rw whole same; counted = rw whole seen; all = rw whole enough }
+          record { content = refl; is = rw whole same; counted = rw whole seen; all = rw whole enough }
     ] refl e
 
-abbrev pub SomeTells : Problem → List RawArc → List LineKind → RawGraph → Type 0
-SomeTells problem arcs lines graph = (more : List RawArc) × Tells problem arcs lines graph more
+abbrev pub SomeGives : Problem → List RawArc → List LineKind → RawGraph → Type 0
+SomeGives problem arcs lines graph = (more : List RawArc) × Gives problem arcs lines graph more
 
--- a line that is skipped tells nothing more
-skip_tells : (problem : Problem) (arcs : List RawArc) (lines : List LineKind) (graph : RawGraph) → SomeTells problem (arcs ++ []) lines graph → SomeTells problem arcs (Skipped ∷ lines) graph
-skip_tells problem arcs lines graph h =
-    let rest : SomeTells problem arcs lines graph = rw append-nil at h in
-    (rest.0, record { said = rest.1.said; is = rest.1.is; counted = rest.1.counted; all = rest.1.all })
+-- a line that is skipped gives nothing more
+skip_gives : (problem : Problem) (arcs : List RawArc) (lines : List LineKind) (graph : RawGraph) → SomeGives problem (arcs ++ []) lines graph → SomeGives problem arcs (Skipped ∷ lines) graph
+skip_gives problem arcs lines graph h =
+    let rest : SomeGives problem arcs lines graph = rw append-nil at h in
+    (rest.0, record { content = rest.1.content; is = rest.1.is; counted = rest.1.counted; all = rest.1.all })
 
--- an arc line tells one arc more
-arc_tells : (problem : Problem) (arcs : List RawArc) (lines : List LineKind) (graph : RawGraph) (arc : RawArc) → SomeTells problem (arcs ++ arc ∷ []) lines graph
-    → SomeTells problem arcs (arc_line arc ∷ lines) graph
-arc_tells problem arcs lines graph arc h =
-    let tells = h.1 in
+-- an arc line gives one arc more
+arc_gives : (problem : Problem) (arcs : List RawArc) (lines : List LineKind) (graph : RawGraph) (arc : RawArc) → SomeGives problem (arcs ++ arc ∷ []) lines graph
+    → SomeGives problem arcs (arc_line arc ∷ lines) graph
+arc_gives problem arcs lines graph arc h =
+    let gives = h.1 in
     let assoc : (arcs ++ arc ∷ []) ++ h.0 ≡ arcs ++ arc ∷ h.0 = append_assoc arcs (arc ∷ []) h.0 in
-    (arc ∷ h.0, record { said = ap (λ rest. arc_line arc ∷ rest) tells.said; is = rw assoc at tells.is; counted = rw assoc at tells.counted; all = rw assoc at tells.all })
+    (arc ∷ h.0, record { content = ap (λ rest. arc_line arc ∷ rest) gives.content; is = rw assoc at gives.is; counted = rw assoc at gives.counted; all = rw assoc at gives.all })
 
-arcs_tell : (problem : Problem) (arcs : List RawArc) (number : ℕ) (lines : List LineKind) (graph : RawGraph) → Counted problem arcs
-    → rest_of (Some problem) arcs (enumerate_from number lines) ≡ Ok graph → SomeTells problem arcs lines graph
-arcs_tell problem arcs number [] graph seen e = ([], last_tells problem arcs graph seen e)
-arcs_tell problem arcs number (Skipped ∷ lines) graph seen e =
-    skip_tells problem arcs lines graph (arcs_tell problem (arcs ++ []) (number + 1) lines graph (rw append-nil seen) e)
-arcs_tell problem arcs number (ProblemLine other ∷ lines) graph seen e = cc
-arcs_tell problem arcs number (ArcLine None ∷ lines) graph seen e = cc
-arcs_tell problem arcs number (ArcLine (Some arc) ∷ lines) graph seen e =
+arcs_give : (problem : Problem) (arcs : List RawArc) (number : ℕ) (lines : List LineKind) (graph : RawGraph) → Counted problem arcs
+    → rest_of (Some problem) arcs (enumerate_from number lines) ≡ Ok graph → SomeGives problem arcs lines graph
+arcs_give problem arcs number [] graph seen e = ([], last_gives problem arcs graph seen e)
+arcs_give problem arcs number (Skipped ∷ lines) graph seen e =
+    skip_gives problem arcs lines graph (arcs_give problem (arcs ++ []) (number + 1) lines graph (rw append-nil seen) e)
+arcs_give problem arcs number (ProblemLine other ∷ lines) graph seen e = cc
+arcs_give problem arcs number (ArcLine None ∷ lines) graph seen e = cc
+arcs_give problem arcs number (ArcLine (Some arc) ∷ lines) graph seen e =
     let on = no_fault (arc_fault problem (length arcs) number arc) (rest_of (Some problem) (arcs ++ arc ∷ []) (enumerate_from (number + 1) lines)) graph e in
-    arc_tells problem arcs lines graph arc
-    (arcs_tell problem (arcs ++ arc ∷ []) (number + 1) lines graph (one_more problem arcs arc seen (arc_fits problem (length arcs) number arc on.0)) on.1)
-arcs_tell problem arcs number (Unknown ∷ lines) graph seen e = cc
+    arc_gives problem arcs lines graph arc
+    (arcs_give problem (arcs ++ arc ∷ []) (number + 1) lines graph (one_more problem arcs arc seen (arc_fits problem (length arcs) number arc on.0)) on.1)
+arcs_give problem arcs number (Unknown ∷ lines) graph seen e = cc
 
 -- what IsTextOf says, of lines
 pub record AreLinesOf (lines : List LineKind) (graph : RawGraph) : Type 0 where
-  pub said : filter is_said lines ≡ graph_lines graph
+  pub content : filter is_content lines ≡ graph_lines graph
   pub limits : IsGraph graph
 
-problem_tells : (problem : Problem) (lines : List LineKind) (graph : RawGraph) → SomeTells problem [] lines graph → AreLinesOf (ProblemLine (Some problem) ∷ lines) graph
-problem_tells problem lines graph h =
-    let tells = h.1 in
-    let many : problem.arcs ≡ length h.0 = omega (arith, tells.all, tells.counted.told) in
-    let told : problem ≡ record { nodes = problem.nodes; arcs = length h.0 } = ap (λ (n : ℕ). record { nodes = problem.nodes; arcs = n }) many in
-    let said : filter is_said (ProblemLine (Some problem) ∷ lines) ≡ graph_lines (record { nodes = problem.nodes; arcs = h.0 }) =
-    ap (λ rest. ProblemLine (Some problem) ∷ rest) tells.said ∙ ap (λ (problem : Problem). ProblemLine (Some problem) ∷ map arc_line h.0) told in
+problem_gives : (problem : Problem) (lines : List LineKind) (graph : RawGraph) → SomeGives problem [] lines graph → AreLinesOf (ProblemLine (Some problem) ∷ lines) graph
+problem_gives problem lines graph h =
+    let gives = h.1 in
+    let many : problem.arcs ≡ length h.0 = omega (arith, gives.all, gives.counted.announced) in
+    let announced : problem ≡ record { nodes = problem.nodes; arcs = length h.0 } = ap (λ (n : ℕ). record { nodes = problem.nodes; arcs = n }) many in
+    let content : filter is_content (ProblemLine (Some problem) ∷ lines) ≡ graph_lines (record { nodes = problem.nodes; arcs = h.0 }) =
+    ap (λ rest. ProblemLine (Some problem) ∷ rest) gives.content ∙ ap (λ (problem : Problem). ProblemLine (Some problem) ∷ map arc_line h.0) announced in
     let limits : IsGraph (record { nodes = problem.nodes; arcs = h.0 }) =
-    record { some = tells.counted.some; few_nodes = tells.counted.few_nodes; few_arcs = omega (arith, tells.counted.few_arcs, tells.counted.told); tails = tells.counted.tails; heads = tells.counted.heads } in
-    subst (λ graph. AreLinesOf (ProblemLine (Some problem) ∷ lines) graph) (sym tells.is) (record { said = said; limits = limits })
+    record { some = gives.counted.some; few_nodes = gives.counted.few_nodes; few_arcs = omega (arith, gives.counted.few_arcs, gives.counted.announced); tails = gives.counted.tails; heads = gives.counted.heads } in
+    subst (λ graph. AreLinesOf (ProblemLine (Some problem) ∷ lines) graph) (sym gives.is) (record { content = content; limits = limits })
 
-lines_tell : (number : ℕ) (lines : List LineKind) (graph : RawGraph) → rest_of None [] (enumerate_from number lines) ≡ Ok graph → AreLinesOf lines graph
-lines_tell number [] graph e = cc
-lines_tell number (Skipped ∷ lines) graph e = let rest = lines_tell (number + 1) lines graph e in record { said = rest.said; limits = rest.limits }
-lines_tell number (ProblemLine None ∷ lines) graph e = cc
-lines_tell number (ProblemLine (Some problem) ∷ lines) graph e =
+lines_give : (number : ℕ) (lines : List LineKind) (graph : RawGraph) → rest_of None [] (enumerate_from number lines) ≡ Ok graph → AreLinesOf lines graph
+lines_give number [] graph e = cc
+lines_give number (Skipped ∷ lines) graph e = let rest = lines_give (number + 1) lines graph e in record { content = rest.content; limits = rest.limits }
+lines_give number (ProblemLine None ∷ lines) graph e = cc
+lines_give number (ProblemLine (Some problem) ∷ lines) graph e =
     let on = no_fault (size_fault number problem) (rest_of (Some problem) [] (enumerate_from (number + 1) lines)) graph e in
-    problem_tells problem lines graph (arcs_tell problem [] (number + 1) lines graph (sizes_counted number problem on.0) on.1)
-lines_tell number (ArcLine arc ∷ lines) graph e = cc
-lines_tell number (Unknown ∷ lines) graph e = cc
+    problem_gives problem lines graph (arcs_give problem [] (number + 1) lines graph (sizes_counted number problem on.0) on.1)
+lines_give number (ArcLine arc ∷ lines) graph e = cc
+lines_give number (Unknown ∷ lines) graph e = cc
 
 pub accepted_text : (bytes : List ℕ) (graph : RawGraph) → graph_text bytes ≡ Ok graph → IsTextOf bytes graph
 accepted_text bytes graph e =
-    let lines = lines_tell 1 (text_kinds bytes) graph (rest_of_all (text_kinds bytes) ∙ e) in
-    record { lines = lines.said; limits = lines.limits }
+    let lines = lines_give 1 (text_kinds bytes) graph (rest_of_all (text_kinds bytes) ∙ e) in
+    record { lines = lines.content; limits = lines.limits }
 
 -- an answer that is the text's
 pub answer_accepted : (bytes : List ℕ) (answer : Result RawGraph GraphFault) → answer ≡ graph_text bytes → IfOk answer (λ graph. IsTextOf bytes graph)
@@ -174,7 +175,7 @@ answer_valid bytes (Err fault) e = tt
 
 -- ---- the text of a graph is accepted
 
--- arcs behind others, as many as the problem tells
+-- arcs after others, as many as the problem gives
 pub record Expected (problem : Problem) (arcs more : List RawArc) : Type 0 where
   pub all : problem.arcs ≡ length (arcs ++ more)
   pub tails : All (λ (arc : RawArc). IsNode problem.nodes arc.tail) more
@@ -195,7 +196,7 @@ next_expected problem arcs more arc h =
       record { room = omega (arith, h.all, length-append arcs (arc ∷ more)); tail = All-head (λ (arc : RawArc). IsNode problem.nodes arc.tail) arc more h.tails; head = All-head (λ (arc : RawArc). IsNode problem.nodes arc.head) arc more h.heads },
     )
 
-arcs_accepted : (problem : Problem) (arcs more : List RawArc) (number : ℕ) (lines : List LineKind) → Expected problem arcs more → filter is_said lines ≡ map arc_line more
+arcs_accepted : (problem : Problem) (arcs more : List RawArc) (number : ℕ) (lines : List LineKind) → Expected problem arcs more → filter is_content lines ≡ map arc_line more
     → rest_of (Some problem) arcs (enumerate_from number lines) ≡ Ok (record { nodes = problem.nodes; arcs = arcs ++ more })
 arcs_accepted problem arcs [] number [] h e =
     let enough : nat_lt (length arcs) problem.arcs ≡ false = let all : problem.arcs ≡ length arcs = h.all ∙ ap length (append-nil arcs) in grind arith in
@@ -211,7 +212,7 @@ arcs_accepted problem arcs [] number (ArcLine other ∷ lines) h e = cc
 arcs_accepted problem arcs (arc ∷ more) number (ArcLine None ∷ lines) h e = cc
 arcs_accepted problem arcs (arc ∷ more) number (ArcLine (Some other) ∷ lines) h e =
     let same : other ≡ arc = cc in
-    let rest : filter is_said lines ≡ map arc_line more = cc in
+    let rest : filter is_content lines ≡ map arc_line more = cc in
     let next = next_expected problem arcs more arc h in
     let goal : rest_of (Some problem) arcs (enumerate_from number (ArcLine (Some arc) ∷ lines)) ≡ Ok (record { nodes = problem.nodes; arcs = arcs ++ arc ∷ more }) =
     ap (λ fault. fault_or fault (rest_of (Some problem) (arcs ++ arc ∷ []) (enumerate_from (number + 1) lines))) (fits_no_fault problem (length arcs) number arc next.1)
@@ -219,14 +220,14 @@ arcs_accepted problem arcs (arc ∷ more) number (ArcLine (Some other) ∷ lines
     ∙ ap (λ (all : List RawArc). Ok (record { nodes = problem.nodes; arcs = all })) (append_assoc arcs (arc ∷ []) more) in
     subst (λ arc'. rest_of (Some problem) arcs (enumerate_from number (ArcLine (Some arc') ∷ lines)) ≡ Ok (record { nodes = problem.nodes; arcs = arcs ++ arc ∷ more })) (sym same) goal
 
-sizes_no_fault : (number : ℕ) (problem : Problem) → 1 ≤ problem.nodes → problem.nodes ≤ MAX_NODES → problem.arcs ≤ MAX_ARCS → size_fault number problem ≡ None
+sizes_no_fault : (number : ℕ) (problem : Problem) → 1 ≤ problem.nodes → problem.nodes ≤ NODE_LIMIT → problem.arcs ≤ ARC_LIMIT → size_fault number problem ≡ None
 sizes_no_fault number problem some nodes arcs =
     let a : (problem.nodes == 0) ≡ false = grind arith in
-    let b : nat_lt MAX_NODES problem.nodes ≡ false = grind arith in
-    let c : nat_lt MAX_ARCS problem.arcs ≡ false = grind arith in
+    let b : nat_lt NODE_LIMIT problem.nodes ≡ false = grind arith in
+    let c : nat_lt ARC_LIMIT problem.arcs ≡ false = grind arith in
     rw (a, b, c) refl
 
-lines_accepted : (number : ℕ) (lines : List LineKind) (graph : RawGraph) → filter is_said lines ≡ graph_lines graph → IsGraph graph → rest_of None [] (enumerate_from number lines) ≡ Ok graph
+lines_accepted : (number : ℕ) (lines : List LineKind) (graph : RawGraph) → filter is_content lines ≡ graph_lines graph → IsGraph graph → rest_of None [] (enumerate_from number lines) ≡ Ok graph
 lines_accepted number [] graph e limits = cc
 lines_accepted number (Skipped ∷ lines) graph e limits = lines_accepted (number + 1) lines graph e limits
 lines_accepted number (Unknown ∷ lines) graph e limits = cc
@@ -235,7 +236,7 @@ lines_accepted number (ProblemLine None ∷ lines) graph e limits = cc
 lines_accepted number (ProblemLine (Some other) ∷ lines) graph e limits =
     let problem : Problem = record { nodes = graph.nodes; arcs = length graph.arcs } in
     let same : other ≡ record { nodes = graph.nodes; arcs = length graph.arcs } = cc in
-    let rest : filter is_said lines ≡ map arc_line graph.arcs = cc in
+    let rest : filter is_content lines ≡ map arc_line graph.arcs = cc in
     let expected : Expected problem [] graph.arcs = record { all = refl; tails = limits.tails; heads = limits.heads } in
     let goal : rest_of None [] (enumerate_from number (ProblemLine (Some problem) ∷ lines)) ≡ Ok graph =
     ap (λ fault. fault_or fault (rest_of (Some problem) [] (enumerate_from (number + 1) lines))) (sizes_no_fault number problem limits.some limits.few_nodes limits.few_arcs)

@@ -1,37 +1,39 @@
 -- Graph texts: the lines are tried in order, and the first fault found is the text's.
-use Rattle.std.specs.Prelude.{◌≡◌, ℕ, ◌+◌, ◌≤◌, List, [], ◌∷◌, ◌++◌, Bool, true, false, ◌==◌, ◌&&◌, nat_lt, nat_le, All, length, map, filter, Option, Some, None, Result, Ok, Err, if◌then◌else◌}
+use Rattle.std.specs.Prelude.{◌≡◌, ℕ, ◌+◌, ◌≤◌, nat_lt, nat_le, Bool, true, false, ◌==◌, ◌&&◌}
+use Rattle.std.specs.Prelude.{List, [], ◌∷◌, ◌++◌, All, length, map, filter}
+use Rattle.std.specs.Prelude.{Option, Some, None, Result, Ok, Err, if◌then◌else◌}
 use Rattle.std.specs.List.{filter_map}
 use Rattle.std.specs.Option.{option_or}
+use Rattle.sota_units.specs.Limits.{NODE_LIMIT, ARC_LIMIT}
 use Rattle.sota_text.specs.Text.{text_lines}
-use Rattle.sota_dimacs.specs.Lines.{kind_of, problem_said, arc_said}
+use Rattle.sota_dimacs.specs.Lines.{kind_of, line_problem, line_arc}
 use Rattle.sota_dimacs.specs.declared.graph.RawArc.{RawArc}
 use Rattle.sota_dimacs.specs.declared.graph.RawGraph.{RawGraph}
 use Rattle.sota_dimacs.specs.declared.fault.GraphFault.{GraphFault}
-use Rattle.sota_dimacs.specs.declared.fault.GraphFault.TheVariants.{NoProblem, SecondProblem, BadLine, NodeRange, ArcBeforeProblem, TooManyArcs, TooFewArcs, TooManyNodes, ArcLimit}
+use Rattle.sota_dimacs.specs.declared.fault.GraphFault.TheVariants.{NoProblem, SecondProblem}
+use Rattle.sota_dimacs.specs.declared.fault.GraphFault.TheVariants.{BadLine, NodeRange}
+use Rattle.sota_dimacs.specs.declared.fault.GraphFault.TheVariants.{ArcBeforeProblem, TooManyArcs}
+use Rattle.sota_dimacs.specs.declared.fault.GraphFault.TheVariants.{TooFewArcs, TooManyNodes}
+use Rattle.sota_dimacs.specs.declared.fault.GraphFault.TheVariants.{ArcLimit}
 use Rattle.sota_dimacs.specs.declared.line.Problem.{Problem}
 use Rattle.sota_dimacs.specs.declared.line.LineKind.{LineKind}
-use Rattle.sota_dimacs.specs.declared.line.LineKind.TheVariants.{Skipped, ProblemLine, ArcLine, Unknown}
-
-abbrev pub MAX_NODES : ℕ
-MAX_NODES = 1000000
-
-abbrev pub MAX_ARCS : ℕ
-MAX_ARCS = 4000000
+use Rattle.sota_dimacs.specs.declared.line.LineKind.TheVariants.{Skipped, ProblemLine, ArcLine}
+use Rattle.sota_dimacs.specs.declared.line.LineKind.TheVariants.{Unknown}
 
 -- nodes are numbered from 1
 abbrev pub is_node : ℕ → ℕ → Bool
 is_node nodes node = nat_lt 0 node && nat_le node nodes
 
--- ---- what several lines say
+-- ---- what several lines hold
 
 -- their problem: that of the first problem line
 abbrev pub problem_in : List LineKind → Option Problem
 problem_in [] = None
-problem_in (line ∷ lines) = option_or (problem_said line) (problem_in lines)
+problem_in (line ∷ lines) = option_or (line_problem line) (problem_in lines)
 
 -- their arcs: arc e is that of the e-th arc line
 abbrev pub arcs_in : List LineKind → List RawArc
-arcs_in lines = filter_map arc_said lines
+arcs_in lines = filter_map line_arc lines
 
 -- ---- faults
 
@@ -39,8 +41,8 @@ arcs_in lines = filter_map arc_said lines
 abbrev pub size_fault : ℕ → Problem → Option GraphFault
 size_fault number problem =
     if problem.nodes == 0 then Some (BadLine number)
-    else (if nat_lt MAX_NODES problem.nodes then Some (TooManyNodes problem.nodes)
-    else (if nat_lt MAX_ARCS problem.arcs then Some (ArcLimit problem.arcs) else None))
+    else (if nat_lt NODE_LIMIT problem.nodes then Some (TooManyNodes problem.nodes)
+    else (if nat_lt ARC_LIMIT problem.arcs then Some (ArcLimit problem.arcs) else None))
 
 abbrev pub arc_fault : Problem → ℕ → ℕ → RawArc → Option GraphFault
 arc_fault problem found number arc =
@@ -58,18 +60,21 @@ arc_line_fault None found number arc = Some (ArcBeforeProblem number)
 arc_line_fault (Some problem) found number (Some arc) = arc_fault problem found number arc
 arc_line_fault (Some problem) found number None = Some (BadLine number)
 
--- the fault of the line of this number, where the lines before it tell this problem and so many arcs
+-- the fault of the line of this number, after lines with this problem and so many arcs
 abbrev pub line_fault : Option Problem → ℕ → ℕ → LineKind → Option GraphFault
 line_fault problem found number Skipped = None
 line_fault problem found number (ProblemLine line) = problem_line_fault problem number line
 line_fault problem found number (ArcLine line) = arc_line_fault problem found number line
 line_fault problem found number Unknown = Some (BadLine number)
 
--- the fault of the first line that has one, of lines that stand behind others; lines are counted from 1
+-- the fault of the first line that has one, of lines that stand after others; lines are counted
+-- from 1
 abbrev pub first_fault : List LineKind → List LineKind → Option GraphFault
 first_fault before [] = None
 first_fault before (line ∷ lines) =
-    option_or (line_fault (problem_in before) (length (arcs_in before)) (length before + 1) line) (first_fault (before ++ line ∷ []) lines)
+    let number = length before + 1 in
+    option_or (line_fault (problem_in before) (length (arcs_in before)) number line)
+    (first_fault (before ++ line ∷ []) lines)
 
 -- ---- the whole text
 
@@ -103,22 +108,24 @@ IsNode nodes node = (1 ≤ node) × (node ≤ nodes)
 -- a graph within the limits: 1 to 1,000,000 nodes, at most 4,000,000 arcs, and all ends are nodes
 pub record IsGraph (graph : RawGraph) : Type 0 where
   pub some : 1 ≤ graph.nodes
-  pub few_nodes : graph.nodes ≤ MAX_NODES
-  pub few_arcs : length graph.arcs ≤ MAX_ARCS
+  pub few_nodes : graph.nodes ≤ NODE_LIMIT
+  pub few_arcs : length graph.arcs ≤ ARC_LIMIT
   pub tails : All (λ arc. IsNode graph.nodes arc.tail) graph.arcs
   pub heads : All (λ arc. IsNode graph.nodes arc.head) graph.arcs
 
 -- neither blank nor a comment
-abbrev pub is_said : LineKind → Bool
-is_said Skipped = false
-is_said _ = true
+abbrev pub is_content : LineKind → Bool
+is_content Skipped = false
+is_content _ = true
 
 -- a problem line, and then a line for each arc
 abbrev pub graph_lines : RawGraph → List LineKind
-graph_lines graph = ProblemLine (Some (record { nodes = graph.nodes; arcs = length graph.arcs })) ∷ map (λ arc. ArcLine (Some arc)) graph.arcs
+graph_lines graph =
+    ProblemLine (Some (record { nodes = graph.nodes; arcs = length graph.arcs }))
+    ∷ map (λ arc. ArcLine (Some arc)) graph.arcs
 
--- without its blank lines and comments, the text of a graph within the limits is its lines; this says again which texts are accepted,
--- without faults and their order
+-- without its blank lines and comments, the text of a graph within the limits is its lines; this
+-- says which texts are accepted, without faults and their order
 pub record IsTextOf (bytes : List ℕ) (graph : RawGraph) : Type 0 where
-  pub lines : filter is_said (text_kinds bytes) ≡ graph_lines graph
+  pub lines : filter is_content (text_kinds bytes) ≡ graph_lines graph
   pub limits : IsGraph graph

@@ -9,5 +9,5 @@ mod reader;
 mod tests;
 
 pub use fault::GraphFault;
-pub use graph::{RawArc, RawArcs, RawGraph};
+pub use graph::{RawArc, RawGraph};
 pub use reader::read_graph;

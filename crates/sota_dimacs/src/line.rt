@@ -1,34 +1,34 @@
-// What a line says by itself.
+// What a line is by itself.
 ghost use Rattle.std.specs.Prelude.{◌≡◌, map};
 ghost use Rattle.sota_text.specs.Text.{fields_of};
 ghost use Rattle.sota_text.specs.Spans.{bytes_of, AreWithin};
-ghost use Rattle.sota_dimacs.specs.Lines.{begins_comment, problem_of, arc_of, kind_of};
+ghost use Rattle.sota_dimacs.specs.Lines.{begins_comment, parse_problem, parse_arc, kind_of};
 
 use crate::RawArc;
 use sota_text::{Fields, read_u32, three_fields};
 use sota_units::NodeId;
 
-/// What a problem line tells.
+/// The numbers of nodes and arcs that a problem line announces.
 #[derive(Clone, Copy, Debug, PartialEq, Eq)]
 pub(crate) struct Problem {
     pub(crate) nodes: u32,
     pub(crate) arcs: u32,
 }
 
-/// What a line says by itself.
+/// What a line is by itself.
 #[derive(Clone, Copy, Debug, PartialEq, Eq)]
 pub(crate) enum LineKind {
     /// A blank line or a comment.
     Skipped,
-    /// A problem line, which says nothing where its fields are not those of one.
+    /// A problem line. None where its fields are not those of one.
     ProblemLine(Option<Problem>),
-    /// An arc line, which says nothing where its fields are not those of one.
+    /// An arc line. None where its fields are not those of one.
     ArcLine(Option<RawArc>),
     /// A line of no kind.
     Unknown,
 }
 
-/// Reads a line.
+/// The kind of a line, with what its fields hold.
 pub(crate) fn read_line(line: &[u8]) -> LineKind
     ensures { result ≡ kind_of line.now }
 {
@@ -55,10 +55,10 @@ fn begins_comment(first: &[u8]) -> bool
     !first.is_empty() && first[0] == b'c'
 }
 
-/// The problem that the fields behind a `p` tell.
+/// The problem of the fields after a `p`.
 fn read_problem(line: &[u8], fields: Fields<'_>) -> Option<Problem>
     requires { AreWithin line.now fields }
-    ensures { result ≡ problem_of (map (bytes_of line.now) fields.entry) }
+    ensures { result ≡ parse_problem (map (bytes_of line.now) fields.entry) }
 {
     let (profile, nodes, arcs) = three_fields(line, fields)?;
     let nodes = read_u32(nodes)?;
@@ -69,10 +69,10 @@ fn read_problem(line: &[u8], fields: Fields<'_>) -> Option<Problem>
     Some(Problem { nodes, arcs })
 }
 
-/// The arc that the fields behind an `a` tell.
+/// The arc of the fields after an `a`.
 fn read_arc(line: &[u8], fields: Fields<'_>) -> Option<RawArc>
     requires { AreWithin line.now fields }
-    ensures { result ≡ arc_of (map (bytes_of line.now) fields.entry) }
+    ensures { result ≡ parse_arc (map (bytes_of line.now) fields.entry) }
 {
     let (tail, head, weight) = three_fields(line, fields)?;
     let tail = NodeId(read_u32(tail)?);

@@ -1,6 +1,6 @@
 // Examples from outside the definitions.
-use crate::{GraphFault, RawArc, RawArcs, read_graph};
-use sota_units::NodeId;
+use crate::{GraphFault, RawArc, read_graph};
+use sota_units::{Items, NodeId};
 use std::test::Fail;
 
 #[test]
@@ -35,7 +35,7 @@ fn graph_texts(rt: HostRuntime) -> Result<(), Fail> {
         assert_eq!(rt; graph.arcs.as_slice(), arcs.as_slice());
     }
     let loops = read_graph(rt.alloc(), b"cx\np sp 1 2\na 1 1 0\na 1 1 4294967295")?;
-    let arcs = RawArcs::new(loops.arcs.into_vec());
+    let arcs = Items::new(loops.arcs.into_vec());
     assert_eq!(rt; arcs.as_slice().len(), 2);
     let faults = [
         ("", GraphFault::NoProblem),

@@ -6,7 +6,7 @@ use Rattle.sota_dimacs.proofs.reader.read_graph.Goals as goal
 
 pub loop-line-init : goal.loop-line-init
 loop-line-init c = record {
-  text = rw (c.new-2.ensures, c.new.ensures.items, c.into_iter-line-iterator.ensures.into_iter_gives) (rest_of_text _ _ c.new-line-items.ensures.texts);
+  text = rw (c.new.ensures.items, c.into_iter-line-iterator.ensures.into_iter_gives) (rest_of_text _ _ c.new-line-items.ensures.texts);
   within = search rules;
 }
 

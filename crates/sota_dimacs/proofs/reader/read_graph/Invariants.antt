@@ -8,6 +8,6 @@ use Rattle.sota_dimacs.proofs.reader.read_graph.Given as goal
 -- what was seen and the lines that are left make the graph of the text
 abbrev pub invariant-loop-line : goal.invariant-loop-line
 invariant-loop-line l = record {
-  text : rest_of l.seen.problem l.seen.arcs (map (entry_of l.bytes) l.line-iterator) ≡ graph_text l.bytes;
+  text : rest_of l.seen.problem l.seen.arcs.items (map (entry_of l.bytes) l.line-iterator) ≡ graph_text l.bytes;
   within : AreWithin l.bytes (map (λ (line : Line). line.span) l.line-iterator);
 }
