@@ -1,14 +1,17 @@
 -- An edit has no more pairs than its line has bytes: each stands in a field of its own.
-use Rattle.std.proofs.Common.{◌≡◌, ℕ, ◌+◌, ◌≤◌, ◌<◌, ◌^◌, List, [], ◌∷◌, true, false, not, cond, length, map, filter, Option, Some, None, option_map, Result, Ok, Err, refl, sym, ap, subst, arith}
+use Rattle.std.proofs.Common.{◌≡◌, ℕ, ◌+◌, ◌≤◌, ◌<◌, ◌^◌, List, [], ◌∷◌, true, false, not, cond, length, map, filter, Option, Some, None, option_map, Result, Ok, Err, codes, refl, sym, ap, subst, arith}
 use Rattle.std.specs.List.{slice_split, onto_first}
+use Rattle.std.specs.Str.{bytes_eq}
 use Rattle.std.proofs.lemmas.List.{length-map}
 use Rattle.sota_text.specs.Text.{is_blank, is_empty, fields_of}
-use Rattle.sota_script.specs.Lines.{◌>>=◌, all_there, or_fault, number_said, pair_of, pairs_of, edit_said}
+use Rattle.sota_units.specs.Memory.{◌>>=◌, or_fault}
+use Rattle.sota_script.specs.Lines.{all_there, pair_of, pairs_of, parse_number, parse_edit, parse_close, parse_ask, parse_ask_line, parse_command}
 use Rattle.sota_script.specs.Few.{HasFewPairs}
+use Rattle.sota_script.specs.declared.command.Ask3.{Ask3}
 use Rattle.sota_script.specs.declared.command.Command.{Command}
 use Rattle.sota_script.specs.declared.command.Command.TheVariants as commands
 use Rattle.sota_script.specs.declared.fault.LineFault.{LineFault}
-use Rattle.sota_script.specs.declared.fault.LineFault.TheVariants.{Number}
+use Rattle.sota_script.specs.declared.fault.LineFault.TheVariants.{Number, Word}
 
 -- ---- a field has a byte
 
@@ -51,9 +54,37 @@ edit_by (Ok arc) (Some all) command few e =
     let is : commands.Edit arc all ≡ command = cc in
     subst (λ (command : Command). HasFewPairs command) is (few all refl)
 
-pub edit_few : (words : List (List ℕ)) (command : Command) → length words < 2 ^ 32 → edit_said words ≡ Ok command → HasFewPairs command
+edit_few : (words : List (List ℕ)) (command : Command) → length words < 2 ^ 32 → parse_edit words ≡ Ok command → HasFewPairs command
 edit_few [] command few e = absurd (cc)
 edit_few (arc ∷ []) command few e = absurd (cc)
 edit_few (arc ∷ first ∷ more) command few e =
-    edit_by (number_said arc) (pairs_of (first ∷ more)) command
+    edit_by (parse_number arc) (pairs_of (first ∷ more)) command
     (λ all is. let many : length all ≡ length (map pair_of (first ∷ more)) = all_of (map pair_of (first ∷ more)) all is in omega (arith, many, few, length-map more pair_of)) e
+
+-- ---- the other commands have none
+
+close_by : (number : Result ℕ LineFault) (command : Command) → (number >>= λ arc. Ok (commands.Close arc)) ≡ Ok command → HasFewPairs command
+close_by (Err fault) command e = absurd (cc)
+close_by (Ok arc) command e = let is : commands.Close arc ≡ command = cc in subst (λ (command : Command). HasFewPairs command) is tt
+
+close_few : (words : List (List ℕ)) (command : Command) → parse_close words ≡ Ok command → HasFewPairs command
+close_few [] command e = absurd (cc)
+close_few (arc ∷ []) command e = close_by (parse_number arc) command e
+close_few (arc ∷ more ∷ rest) command e = absurd (cc)
+
+ask_by : (ask : Result Ask3 LineFault) (command : Command) → (ask >>= λ ask. Ok (commands.Ask ask)) ≡ Ok command → HasFewPairs command
+ask_by (Err fault) command e = absurd (cc)
+ask_by (Ok ask) command e = let is : commands.Ask ask ≡ command = cc in subst (λ (command : Command). HasFewPairs command) is tt
+
+pub command_few : (first : List ℕ) (words : List (List ℕ)) (command : Command) → length words < 2 ^ 32 → parse_command first words ≡ Ok command → HasFewPairs command
+command_few first words command few e =
+    elim (bytes_eq first (codes "edit")) as (λ b. cond b (parse_edit words) (cond (bytes_eq first (codes "close")) (parse_close words) (cond (bytes_eq first (codes "ask")) (parse_ask_line words) (Err Word))) ≡ Ok command → HasFewPairs command) [
+      | true ↦ λ e. edit_few words command few e
+      | false ↦ λ e. elim (bytes_eq first (codes "close")) as (λ b. cond b (parse_close words) (cond (bytes_eq first (codes "ask")) (parse_ask_line words) (Err Word)) ≡ Ok command → HasFewPairs command) [
+        | true ↦ λ e. close_few words command e
+        | false ↦ λ e. elim (bytes_eq first (codes "ask")) as (λ b. cond b (parse_ask_line words) (Err Word) ≡ Ok command → HasFewPairs command) [
+          | true ↦ λ e. ask_by (parse_ask words) command e
+          | false ↦ λ e. absurd (cc)
+        ] e
+      ] e
+    ] e

@@ -1,3 +1,3 @@
+pub mod Words
 pub mod Lines
-pub mod Answers
 pub mod Few

@@ -1,4 +1,7 @@
 // Why a line is no command.
+ghost use Rattle.std.specs.Prelude.{◌≡◌};
+ghost use Rattle.sota_script.specs.Words.{fault_word};
+
 use sota_units::NoMemory;
 
 /// The first fault of a line that is no command.
@@ -12,15 +15,29 @@ pub enum LineFault {
     Number,
     /// A name is not UTF-8. It never comes yet, since no command has a name.
     Name,
-    /// Memory was wanted, and there was none. It says nothing of the line.
+    /// Memory was wanted, and there was none. It has no cause in the line.
     NoMemory,
 }
 
-impl From<NoMemory> for LineFault {
-    ghost use Rattle.std.specs.Prelude.{◌≡◌};
-    ghost use Rattle.sota_script.specs.declared.fault.LineFault.TheVariants.{NoMemory as OutOfMemory};
+impl LineFault {
+    /// Its name, as replies print it.
+    pub fn word(self) -> &'static [u8]
+        ensures { result.now ≡ fault_word self }
+    {
+        match self {
+            LineFault::Word => b"Word",
+            LineFault::Count => b"Count",
+            LineFault::Number => b"Number",
+            LineFault::Name => b"Name",
+            LineFault::NoMemory => b"NoMemory",
+        }
+    }
+}
 
-    ghost from_gives = { λ _ fault. fault ≡ OutOfMemory };
+impl From<NoMemory> for LineFault {
+    ghost use Rattle.sota_script.specs.declared.fault.LineFault.TheVariants.{NoMemory};
+
+    ghost from_gives = { λ _ fault. fault ≡ NoMemory };
 
     fn from(_: NoMemory) -> Self {
         LineFault::NoMemory

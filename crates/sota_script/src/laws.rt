@@ -1,8 +1,8 @@
 //! What is proved of the definitions, apart from any code. A law is a function without a body,
 //! whose contract is its statement.
 ghost use Rattle.std.specs.Prelude.{ℕ, ◌≡◌, List, [], ◌∷◌, codes, Option, Some, None, Ok, Err};
-ghost use Rattle.sota_script.specs.Lines.{line_said, pair_of, IsPair};
-ghost use Rattle.sota_script.specs.declared.command.Command.TheVariants.{Edit, Ask};
+ghost use Rattle.sota_script.specs.Lines.{parse_line, pair_of, IsPair};
+ghost use Rattle.sota_script.specs.declared.command.Command.TheVariants.{Edit, Close, Ask};
 ghost use Rattle.sota_script.specs.declared.fault.LineFault.TheVariants.{Word, Count, Number};
 
 /// A field is a pair exactly where it is the texts of two numbers with a colon between, however it
@@ -14,10 +14,14 @@ pub fn pairs_are_parted_once()
 
 /// The definitions, computed on lines.
 pub fn worked_lines()
-    ensures blank { (line_said (codes " \t") ≡ Ok None) × (line_said (codes "# note") ≡ Ok None) }
-    ensures edit { line_said (codes "edit 2 1:4 3:0") ≡ Ok (Some (Edit 2 ((1, 4) ∷ (3, 0) ∷ []))) }
-    ensures ask { line_said (codes "ask 1 3 2") ≡ Ok (Some (Ask (record { origin = 1; dest = 3; budget = 2 }))) }
-    ensures word { line_said (codes "go") ≡ Err Word }
-    ensures count { (line_said (codes "ask 1 3") ≡ Err Count) × (line_said (codes "edit x") ≡ Err Count) }
-    ensures number { (line_said (codes "edit 2 1-4") ≡ Err Number) × (line_said (codes "ask 1 3 x") ≡ Err Number) }
+    ensures blank { (parse_line (codes " \t") ≡ Ok None) × (parse_line (codes "# note") ≡ Ok None) }
+    ensures edit { parse_line (codes "edit 2 1:4 3:0") ≡ Ok (Some (Edit 2 ((1, 4) ∷ (3, 0) ∷ []))) }
+    ensures ask { parse_line (codes "ask 1 3 2")
+        ≡ Ok (Some (Ask (record { origin = 1; dest = 3; budget = 2 }))) }
+    ensures close { parse_line (codes "close 3") ≡ Ok (Some (Close 3)) }
+    ensures word { parse_line (codes "go") ≡ Err Word }
+    ensures count { (parse_line (codes "ask 1 3") ≡ Err Count)
+        × (parse_line (codes "edit x") ≡ Err Count) }
+    ensures number { (parse_line (codes "edit 2 1-4") ≡ Err Number)
+        × (parse_line (codes "ask 1 3 x") ≡ Err Number) }
 {}

@@ -1,4 +1,4 @@
-//! Scripts: what a line of one says.
+//! Scripts: the command of a line.
 #![tactic(auto)]
 
 mod command;
@@ -8,6 +8,6 @@ mod line;
 #[cfg(test)]
 mod tests;
 
-pub use command::{Ask3, Command, Pairs};
+pub use command::{Ask3, Command};
 pub use fault::LineFault;
 pub use line::read_line;

@@ -1,26 +1,29 @@
 // Reading a line.
-ghost use Rattle.std.specs.Prelude.{◌≡◌, ◌<◌, ◌^◌, ◌∷◌, map, length, IfOk, IfSome, Option};
-ghost use Rattle.sota_text.specs.Spans.{bytes_of, AreWithin, IsWithin};
-ghost use Rattle.sota_script.specs.Lines.{line_said, begins_comment, edit_said, ask_said, pairs_of, pair_of, is_colon, or_fault};
+ghost use Rattle.std.specs.Prelude.{◌≡◌, ◌<◌, ◌^◌, ◌∷◌, map, length, IfOk, IfSome};
 ghost use Rattle.std.specs.List.{position};
+ghost use Rattle.sota_units.specs.Memory.{Answers, AnswersBy, or_fault};
+ghost use Rattle.sota_text.specs.Spans.{bytes_of, AreWithin, IsWithin};
+ghost use Rattle.sota_script.specs.Words.{is_shortage};
+ghost use Rattle.sota_script.specs.Lines.{parse_line, parse_command, begins_comment};
+ghost use Rattle.sota_script.specs.Lines.{parse_edit, parse_close, parse_ask, parse_number};
+ghost use Rattle.sota_script.specs.Lines.{pairs_of, pair_of, is_colon};
 ghost use Rattle.sota_script.specs.Few.{HasFewPairs};
-ghost use Rattle.sota_script.specs.Answers.{ReadsLine};
 ghost use Rattle.sota_script.specs.declared.fault.LineFault.TheVariants.{Number};
 
-use crate::{Ask3, Command, LineFault, Pairs};
+use crate::{Ask3, Command, LineFault};
 use sota_text::{Fields, Span, read_u32, three_fields};
-use sota_units::{ArcId, Mass, Tick};
+use sota_units::{ArcId, Items, Mass, NoMemory, Tick};
 use std::alloc::Global;
 
 /// The command of a line, which stands without what ends it. None exactly where the line is blank
 /// or a comment, whose first field begins with `#`.
 ///
-/// Commands are `edit ARC T:M ..`, with one pair or more, and `ask O D T`. Fields are parted by
-/// spaces and tabs.
+/// Commands are `edit ARC T:M ..`, with one pair or more, `close ARC` and `ask O D T`. Fields are
+/// parted by spaces and tabs.
 pub fn read_line(alloc: Global, line: &[u8]) -> Result<Option<Command>, LineFault>
     requires { length line.now < 2 ^ 32 }
-    ensures said { ReadsLine result (line_said line.now) }
-    ensures few { IfOk result (λ said. IfSome said (λ command. HasFewPairs command)) }
+    ensures meaning { Answers is_shortage result (parse_line line.now) }
+    ensures few { IfOk result (λ read. IfSome read (λ command. HasFewPairs command)) }
 {
     let mut fields = Fields::new(line);
     let Some(first) = fields.next() else {
@@ -28,14 +31,9 @@ pub fn read_line(alloc: Global, line: &[u8]) -> Result<Option<Command>, LineFaul
     };
     let first = &line[first.from..first.to];
     if begins_comment(first) {
-        Ok(None)
-    } else if first == b"edit".as_slice() {
-        Ok(Some(read_edit(alloc, line, fields)?))
-    } else if first == b"ask".as_slice() {
-        Ok(Some(Command::Ask(read_ask(line, fields)?)))
-    } else {
-        Err(LineFault::Word)
+        return Ok(None);
     }
+    Ok(Some(read_command(alloc, line, first, fields)?))
 }
 
 /// A comment is a line whose first field begins with `#`.
@@ -45,14 +43,36 @@ fn begins_comment(first: &[u8]) -> bool
     !first.is_empty() && first[0] == b'#'
 }
 
-/// The edit that the fields behind an `edit` tell.
+/// The command of a word and the fields after it. Each word of a command has its arm here.
+fn read_command(
+    alloc: Global,
+    line: &[u8],
+    first: &[u8],
+    fields: Fields<'_>,
+) -> Result<Command, LineFault>
+    requires { AreWithin line.now fields }
+    ensures { Answers is_shortage result
+        (parse_command first.now (map (bytes_of line.now) fields.entry)) }
+{
+    if first == b"edit".as_slice() {
+        read_edit(alloc, line, fields)
+    } else if first == b"close".as_slice() {
+        read_close(line, fields)
+    } else if first == b"ask".as_slice() {
+        Ok(Command::Ask(read_ask(line, fields)?))
+    } else {
+        Err(LineFault::Word)
+    }
+}
+
+/// The edit of the fields after an `edit`.
 fn read_edit(alloc: Global, line: &[u8], mut fields: Fields<'_>) -> Result<Command, LineFault>
     requires { AreWithin line.now fields }
-    ensures { ReadsLine result (edit_said (map (bytes_of line.now) fields.entry)) }
+    ensures { Answers is_shortage result (parse_edit (map (bytes_of line.now) fields.entry)) }
 {
     let arc = fields.next().ok_or(LineFault::Count)?;
     let pair = fields.next().ok_or(LineFault::Count)?;
-    let arc = read_u32(&line[arc.from..arc.to]).ok_or(LineFault::Number)?;
+    let arc = read_number(&line[arc.from..arc.to])?;
     let pairs = read_pairs(alloc, line, pair, fields)?;
     Ok(Command::Edit {
         arc: ArcId(arc),
@@ -60,23 +80,28 @@ fn read_edit(alloc: Global, line: &[u8], mut fields: Fields<'_>) -> Result<Comma
     })
 }
 
-/// The pairs of a field and of those behind it.
+/// The pairs of a field and of those after it.
 fn read_pairs(
     alloc: Global,
     line: &[u8],
     first: Span,
     fields: Fields<'_>,
-) -> Result<Pairs, LineFault>
+) -> Result<Items<(Tick, Mass)>, LineFault>
     requires first { IsWithin line.now first }
     requires fields { AreWithin line.now fields }
-    ensures { ReadsLine result (or_fault Number (pairs_of (map (bytes_of line.now) (first ∷ fields.entry)))) }
+    ensures { Answers is_shortage result
+        (or_fault Number (pairs_of (map (bytes_of line.now) (first ∷ fields.entry)))) }
 {
-    let mut pairs = Pairs::new(Vec::new(alloc));
-    pairs.push(read_pair(&line[first.from..first.to]).ok_or(LineFault::Number)?)?;
+    let mut pairs = Vec::new(alloc);
+    pairs
+        .push(read_pair(&line[first.from..first.to]).ok_or(LineFault::Number)?)
+        .map_err(NoMemory::from)?;
     for field in fields {
-        pairs.push(read_pair(&line[field.from..field.to]).ok_or(LineFault::Number)?)?;
+        pairs
+            .push(read_pair(&line[field.from..field.to]).ok_or(LineFault::Number)?)
+            .map_err(NoMemory::from)?;
     }
-    Ok(pairs)
+    Ok(Items::new(pairs))
 }
 
 /// The tick and the mass of a field `T:M`.
@@ -96,15 +121,35 @@ fn find_colon(field: &[u8]) -> Option<usize>
     field.iter().position(|byte| *byte == b':')
 }
 
-/// The ask that the fields behind an `ask` tell.
+/// The arc of the fields after a `close`.
+fn read_close(line: &[u8], mut fields: Fields<'_>) -> Result<Command, LineFault>
+    requires { AreWithin line.now fields }
+    ensures { result ≡ parse_close (map (bytes_of line.now) fields.entry) }
+{
+    let arc = fields.next().ok_or(LineFault::Count)?;
+    if fields.next().is_some() {
+        return Err(LineFault::Count);
+    }
+    let arc = read_number(&line[arc.from..arc.to])?;
+    Ok(Command::Close { arc: ArcId(arc) })
+}
+
+/// The ask of the fields after an `ask`.
 fn read_ask(line: &[u8], fields: Fields<'_>) -> Result<Ask3, LineFault>
     requires { AreWithin line.now fields }
-    ensures { result ≡ ask_said (map (bytes_of line.now) fields.entry) }
+    ensures { result ≡ parse_ask (map (bytes_of line.now) fields.entry) }
 {
     let (origin, dest, budget) = three_fields(line, fields).ok_or(LineFault::Count)?;
     Ok(Ask3 {
-        origin: read_u32(origin).ok_or(LineFault::Number)?,
-        dest: read_u32(dest).ok_or(LineFault::Number)?,
-        budget: read_u32(budget).ok_or(LineFault::Number)?,
+        origin: read_number(origin)?,
+        dest: read_number(dest)?,
+        budget: read_number(budget)?,
     })
+}
+
+/// The number of a field.
+fn read_number(field: &[u8]) -> Result<u32, LineFault>
+    ensures { result ≡ parse_number field.now }
+{
+    read_u32(field).ok_or(LineFault::Number)
 }

@@ -1,6 +1,6 @@
 // Examples from outside the definitions.
-use crate::{Ask3, Command, LineFault, Pairs, read_line};
-use sota_units::{ArcId, Mass, Tick};
+use crate::{Ask3, Command, LineFault, read_line};
+use sota_units::{ArcId, Items, Mass, Tick};
 use std::test::Fail;
 
 #[test]
@@ -12,8 +12,11 @@ fn refused_lines(rt: HostRuntime) -> Result<(), Fail> {
         ("ASK 1 2 3", LineFault::Word),
         ("edit", LineFault::Count),
         ("edit x", LineFault::Count),
+        ("close", LineFault::Count),
+        ("close x 1", LineFault::Count),
         ("ask 1 3", LineFault::Count),
         ("ask 1 x 3 4", LineFault::Count),
+        ("close 1:1", LineFault::Number),
         ("edit x 1:1", LineFault::Number),
         ("edit 2 1-4", LineFault::Number),
         ("edit 1 1:1 2", LineFault::Number),
@@ -40,7 +43,7 @@ fn refused_lines(rt: HostRuntime) -> Result<(), Fail> {
 fn is_ask(command: &Command, want: &Ask3) -> bool {
     match command {
         Command::Ask(ask) => ask == want,
-        Command::Edit { .. } => false,
+        Command::Edit { .. } | Command::Close { .. } => false,
     }
 }
 
@@ -48,10 +51,10 @@ fn is_ask(command: &Command, want: &Ask3) -> bool {
 fn is_edit(command: Command, want: ArcId, want_pairs: &[(Tick, Mass)]) -> bool {
     match command {
         Command::Edit { arc, pairs } => {
-            let pairs = Pairs::new(pairs.into_vec());
+            let pairs = Items::new(pairs.into_vec());
             arc == want && pairs.as_slice() == want_pairs
         }
-        Command::Ask(_) => false,
+        Command::Close { .. } | Command::Ask(_) => false,
     }
 }
 
@@ -72,5 +75,7 @@ fn commands(rt: HostRuntime) -> Result<(), Fail> {
     let pairs = [(Tick(5), Mass(1)), (Tick(0), Mass(4)), (Tick(5), Mass(0))];
     let command = read_line(rt.alloc(), b"edit 3 5:1\t0:04 5:0")?.ok_or("an edit")?;
     assert!(rt; is_edit(command, ArcId(3), &pairs));
+    let command = read_line(rt.alloc(), b"close\t07 ")?.ok_or("a close")?;
+    assert!(rt; matches!(&command, Command::Close { arc: ArcId(7) }));
     Ok(())
 }
