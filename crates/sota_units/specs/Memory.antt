@@ -1,5 +1,5 @@
--- What a call answers that may want memory: what its definition says, or that there was no memory, which has no cause in
--- what was handed in.
+-- What a call answers that may want memory: what its definition says, or that there was no memory,
+-- which has no cause in what was handed in.
 use Rattle.std.specs.Prelude.{◌≡◌, Bool, true, false, Option, Some, Result, Ok, Err}
 
 -- a fact that is said only where something is not so

@@ -5,7 +5,8 @@ ghost use Rattle.sota_units.specs.Rounding.{ONE, HEFT_LIMIT, floor_by, ceiling_b
 use crate::{Grain, Mass, Scale};
 use std::marker::Model;
 
-/// A sum of masses times grains: a probability in units of `Q` times ten to the eighteenth, at most two to the 107th.
+/// A sum of masses times grains: a probability in units of `Q` times ten to the eighteenth, at most
+/// two to the 107th.
 #[derive(Clone, Copy, Debug, PartialEq, Eq, PartialOrd, Ord)]
 pub struct Heft {
     value: u128,

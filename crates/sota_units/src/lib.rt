@@ -1,4 +1,5 @@
-//! Typed numbers: ticks, masses, node and arc numbers, probabilities in units of ten to the minus eighteenth, and counters.
+//! Typed numbers: ticks, masses, node and arc numbers, probabilities in units of ten to the minus
+//! eighteenth, limits, lists as fields, and counters.
 #![tactic(auto)]
 
 mod grain;

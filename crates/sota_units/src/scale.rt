@@ -20,7 +20,8 @@ impl Model for Scale {
 
     ghost inverse = { λ n. record { q = n; inverse = 18446744073709551615 / n } };
 
-    ghost invariant = { λ a. (1 ≤ a.q) × (a.q ≤ SCALE_LIMIT) × (a.inverse ≡ 18446744073709551615 / a.q) };
+    ghost invariant = { λ a.
+        (1 ≤ a.q) × (a.q ≤ SCALE_LIMIT) × (a.inverse ≡ 18446744073709551615 / a.q) };
 }
 
 impl Scale {

@@ -20,7 +20,8 @@ pub fn grain_text(grain: Grain) -> [u8; 20]
     text
 }
 
-/// The probability of a text that `grain_text` gives. None exactly where the bytes are no such text.
+/// The probability of a text that `grain_text` gives. None exactly where the bytes are no such
+/// text.
 pub fn read_grain(bytes: &[u8]) -> Option<Grain>
     ensures some { IfSome result (λ grain. bytes.now ≡ grain_spelling grain) }
     ensures round_trip { (n : ℕ) → n ≤ ONE → bytes.now ≡ grain_spelling n → result ≡ Some n }
@@ -52,10 +53,10 @@ fn read_digits(digits: &[u8]) -> Option<u64>
 
 #[cfg(test)]
 mod tests {
-    use crate::{Grain, Heft, Mass, Scale, grain_text, read_grain};
+    use crate::{Grain, Heft, Items, Mass, Scale, grain_text, read_grain};
     use std::test::Fail;
 
-    // The texts of probabilities, and the sums and roundings of masses times probabilities.
+    // The texts of probabilities, the sums and roundings of masses times probabilities, and a list.
     #[test]
     fn vectors(rt: HostRuntime) -> Result<(), Fail> {
         let texts: [(u64, &[u8; 20]); 3] = [
@@ -85,6 +86,9 @@ mod tests {
             assert_eq!(rt; heft.up(four).get(), up);
         }
         assert_eq!(rt; Mass(3).times(Grain::ONE).get(), 3_000_000_000_000_000_000);
+        let items = Items::new([1u32, 2].to_vec(rt.alloc())?);
+        assert!(rt; items.as_slice() == [1, 2].as_slice());
+        assert_eq!(rt; items.into_vec().len(), 2);
         Ok(())
     }
 }
