@@ -51,7 +51,8 @@ impl Histogram {
         requires { length pairs.now < 2 ^ 32 }
         ensures ok { OnOk result (exact_fault scale pairs.now ≡ None) }
         ensures time { IfOk result (λ time. time ≡ time_of pairs.now) }
-        ensures fault { IfErr result (λ fault. IsFault is_shortage (exact_fault scale pairs.now) fault) }
+        ensures fault { IfErr result (λ fault.
+            IsFault is_shortage (exact_fault scale pairs.now) fault) }
 
         // What `time` says besides: a histogram rises, and has these pairs.
         ensures pairs { IfOk result (λ time. IsPermutation (positive pairs.now) time) }
@@ -76,7 +77,8 @@ impl Histogram {
         requires { length pairs.now < 2 ^ 32 }
         ensures ok { OnOk result (at_most_fault scale pairs.now ≡ None) }
         ensures time { IfOk result (λ time. time ≡ time_of pairs.now) }
-        ensures fault { IfErr result (λ fault. IsFault is_shortage (at_most_fault scale pairs.now) fault) }
+        ensures fault { IfErr result (λ fault.
+            IsFault is_shortage (at_most_fault scale pairs.now) fault) }
 
         // What `time` says besides: a histogram rises, and has these pairs.
         ensures pairs { IfOk result (λ time. IsPermutation (positive pairs.now) time) }
