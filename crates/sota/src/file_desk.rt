@@ -1,151 +1,145 @@
 // The files of the system as a desk.
-ghost use Rattle.std.specs.Prelude.{◌≡◌, ℕ, vec_len};
+ghost use Rattle.std.specs.Prelude.{◌≡◌, ◌≤◌, None, string_bytes};
+ghost use Rattle.sota_edge.specs.Desk.{LoadCause, LoadTaken, StoreCause};
+ghost use Rattle.sota.specs.FileAnswer.{FileAnswer, opened_bytes};
 ghost use Rattle.sota.specs.FileDesk.{file_state};
-ghost use Rattle.sota.specs.Filled.{IsFilled};
 
+use crate::reading::{load_error, read_all};
 use crate::shortage::is_shortage;
+use crate::writing::write_all;
 use sota_edge::{Desk, LoadError, StoreError};
 use std::alloc::Global;
 use std::fs::File;
 use std::io;
-use std::io::{ErrorKind, Read, Write};
+use std::io::{Read, Write};
 use std::rt::Files;
 
-/// Opens, reads and writes files. It does not tell what they hold.
+/// Opens, reads and writes files. It is not known what they hold.
 #[derive(Drop)]
 pub struct FileDesk<'a, R: Files> {
     rt: &'a R,
+    counts: Counts,
+}
+
+/// What a desk of files counts.
+#[derive(Drop)]
+pub struct Counts {
     fault_name: Option<String>,
     load_faults: u64,
     store_faults: u64,
     taken: u64,
 }
 
-/// How reading a file ended.
-pub enum Filled {
-    /// At the file's end, with at most the limit.
-    End,
-    /// With one byte more than the limit.
-    More,
-    /// A read failed.
-    Failed,
-    /// Memory was wanted.
-    NoMemory,
-}
-
-const PIECE: usize = 4096;
-
-/// Reads to the end, or until one byte more than the limit was read. Each turn reads a byte at least, or ends.
-fn fill<R: Read>(reader: &mut R, bytes: &mut Vec<u8>, limit: u32) -> Filled
-    requires { vec_len bytes.old ≡ 0 }
-    ensures { IsFilled result (vec_len bytes.new) limit }
-{
-    let most = limit as usize + 1;
-    let mut piece = [0u8; PIECE];
-    while bytes.len() < most {
-        let room = (most - bytes.len()).min(PIECE);
-        match reader.read(&mut piece[..room]) {
-            Ok(0) => return Filled::End,
-            Ok(count) => {
-                if bytes.extend_from_slice(&piece[..count]).is_err() {
-                    return Filled::NoMemory;
-                }
+impl Counts {
+    /// What a file gives that was opened, at most `limit` bytes.
+    fn load_from<F: Read + Drop>(
+        &mut self,
+        opened: io::Result<F>,
+        alloc: Global,
+        name: String,
+        limit: u32,
+    ) -> Result<Vec<u8>, LoadError>
+        ensures answer { FileAnswer (λ bytes. bytes.items) result
+            (opened_bytes F.remaining opened) limit }
+        ensures cause { LoadCause result (string_bytes name)
+            (file_state self.old) (file_state self.new) }
+        ensures stores { self.new.store_faults ≡ self.old.store_faults }
+        ensures rises { self.old.taken ≤ self.new.taken }
+        ensures taken { LoadTaken (λ bytes. bytes.items) result limit
+            self.old.taken self.new.taken }
+    {
+        match read_opened(opened, alloc, limit) {
+            Ok(bytes) => {
+                self.taken = self.taken.saturating_add(bytes.len() as u64);
+                Ok(bytes)
             }
-            Err(error) => return unfilled(&error),
+            Err(LoadError::TooLong) => {
+                self.taken = self.taken.saturating_add(u64::from(limit) + 1);
+                Err(LoadError::TooLong)
+            }
+            Err(LoadError::Failed) => {
+                self.fault_name = Some(name);
+                self.load_faults = self.load_faults.saturating_add(1);
+                Err(LoadError::Failed)
+            }
+            Err(LoadError::Missing) => Err(LoadError::Missing),
+            Err(LoadError::NoMemory) => Err(LoadError::NoMemory),
         }
     }
-    Filled::More
+
+    /// Fills a file that was made.
+    fn store_to<F: Write + Drop>(
+        &mut self,
+        made: io::Result<F>,
+        name: String,
+        bytes: &[u8],
+    ) -> Result<(), StoreError>
+        ensures cause { StoreCause result (string_bytes name)
+            (file_state self.old) (file_state self.new) }
+        ensures loads { self.new.load_faults ≡ self.old.load_faults }
+        ensures taken { self.new.taken ≡ self.old.taken }
+    {
+        match write_made(made, bytes) {
+            Ok(()) => Ok(()),
+            Err(error) if is_shortage(&error) => Err(StoreError::NoMemory),
+            Err(_) => {
+                self.fault_name = Some(name);
+                self.store_faults = self.store_faults.saturating_add(1);
+                Err(StoreError::Failed)
+            }
+        }
+    }
 }
 
-/// Why nothing is read any more.
-fn unfilled(error: &io::Error) -> Filled
-    ensures { (n : ℕ) → (limit : ℕ) → IsFilled result n limit }
+/// The bytes of a file that was opened, at most `limit`.
+fn read_opened<F: Read + Drop>(
+    opened: io::Result<F>,
+    alloc: Global,
+    limit: u32,
+) -> Result<Vec<u8>, LoadError>
+    ensures { FileAnswer (λ bytes. bytes.items) result (opened_bytes F.remaining opened) limit }
 {
-    if is_shortage(error) {
-        Filled::NoMemory
-    } else {
-        Filled::Failed
+    match opened {
+        Ok(mut file) => read_all(&mut file, alloc, limit),
+        Err(error) => Err(load_error(&error)),
     }
 }
 
-/// Writes all the bytes. A write that takes none is a fault.
-fn write_bytes<W: Write>(writer: &mut W, bytes: &[u8]) -> io::Result<()> {
-    let mut done = 0;
-    while done < bytes.len() {
-        match writer.write(&bytes[done..])? {
-            0 => return Err(io::Error::from(ErrorKind::WriteZero)),
-            count => done += count,
-        }
-    }
-    writer.flush()
+/// Writes all the bytes into a file that was made.
+fn write_made<F: Write + Drop>(made: io::Result<F>, bytes: &[u8]) -> io::Result<()> {
+    write_all(&mut made?, bytes)
 }
 
 impl<'a, R: Files> FileDesk<'a, R> {
-    /// A desk over the files of this runtime.
-    pub fn new(rt: &'a R) -> Self {
-        FileDesk {
-            rt,
+    /// A desk over the files of this runtime. Nothing is counted yet.
+    pub fn new(rt: &'a R) -> Self
+        ensures { file_state result.counts ≡ record { holds = None; fault_name = None;
+            load_faults = 0; store_faults = 0; taken = 0 } }
+    {
+        let counts = Counts {
             fault_name: None,
             load_faults: 0,
             store_faults: 0,
             taken: 0,
-        }
-    }
-
-    /// Reads a file until it ends or one byte more than the limit was read.
-    fn read_file(&self, name: &str, bytes: &mut Vec<u8>, limit: u32) -> Filled
-        requires { vec_len bytes.old ≡ 0 }
-        ensures { IsFilled result (vec_len bytes.new) limit }
-    {
-        match File::open(self.rt, name) {
-            Ok(mut file) => fill(&mut file, bytes, limit),
-            Err(error) => unfilled(&error),
-        }
-    }
-
-    /// Replaces a file whole, or makes it.
-    fn write_file(&self, name: &str, bytes: &[u8]) -> io::Result<()> {
-        let mut file = File::create(self.rt, name)?;
-        write_bytes(&mut file, bytes)
+        };
+        FileDesk { rt, counts }
     }
 }
 
 impl<R: Files> Desk for FileDesk<'_, R> {
-    ghost state = { λ desk. file_state desk.fault_name desk.load_faults desk.store_faults desk.taken };
+    ghost state = { λ desk. file_state desk.counts };
 
     fn load(&mut self, alloc: Global, name: &str, limit: u32) -> Result<Vec<u8>, LoadError> {
         let Ok(copy) = String::from_str(alloc, name) else {
             return Err(LoadError::NoMemory);
         };
-        let mut bytes = Vec::new(alloc);
-        let filled = self.read_file(name, &mut bytes, limit);
-        self.taken = self.taken.saturating_add(bytes.len() as u64);
-        match filled {
-            Filled::End => Ok(bytes),
-            Filled::More => Err(LoadError::TooLong),
-            Filled::NoMemory => Err(LoadError::NoMemory),
-            Filled::Failed => {
-                self.fault_name = Some(copy);
-                self.load_faults = self.load_faults.saturating_add(1);
-                Err(LoadError::Failed)
-            }
-        }
+        self.counts.load_from(File::open(self.rt, name), alloc, copy, limit)
     }
 
     fn store(&mut self, alloc: Global, name: &str, bytes: &[u8]) -> Result<(), StoreError> {
         let Ok(copy) = String::from_str(alloc, name) else {
             return Err(StoreError::NoMemory);
         };
-        match self.write_file(name, bytes) {
-            Ok(()) => Ok(()),
-            Err(error) => {
-                if is_shortage(&error) {
-                    return Err(StoreError::NoMemory);
-                }
-                self.fault_name = Some(copy);
-                self.store_faults = self.store_faults.saturating_add(1);
-                Err(StoreError::Failed)
-            }
-        }
+        self.counts.store_to(File::create(self.rt, name), copy, bytes)
     }
 }

@@ -1,11 +1,14 @@
-//! The program: it hands its words, the files of the system and the standard output to the top call.
+//! The program: it hands its words, the files of the system and the standard output to the top
+//! call.
 #![tactic(auto)]
 
 ghost use Rattle.std.specs.Prelude.{◌≡◌, ◌<◌};
 
 mod file_desk;
 mod out_sink;
+mod reading;
 mod shortage;
+mod writing;
 
 use file_desk::FileDesk;
 use out_sink::OutSink;
@@ -20,7 +23,7 @@ use std::{env, io};
 // The exit status where the system does not give the words.
 const NO_WORDS: u8 = 7;
 
-/// The words behind the program's name.
+/// The words after the program's name.
 fn read_words(rt: &HostRuntime) -> io::Result<Vec<String>> {
     Ok(env::args(rt)?.skip(1).collect(rt.alloc())?)
 }
