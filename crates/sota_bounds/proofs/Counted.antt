@@ -1,5 +1,5 @@
 -- What the needs and counts are, by the law of the region.
-use Rattle.std.proofs.Common.{ℕ, ◌≡◌, ◌≢◌, ◌+◌, ◌<◌, ◌≤◌, List, [], ◌∷◌, length, Option, None, Some, refl, sym, ◌∙◌, ap, arith, ⊎_elim}
+use Rattle.std.proofs.Common.{ℕ, ◌≡◌, ◌≢◌, ◌+◌, ◌-◌, ◌<◌, ◌≤◌, List, [], ◌∷◌, length, get_or, Option, None, Some, refl, sym, ◌∙◌, ap, arith, ⊎_elim}
 use Rattle.std.specs.List.{All, sum, sum_by}
 use Rattle.std.proofs.lemmas.Bool.{cases_lt, cases_eq, eq-eqb, ne_eqb, le-leb, lt-leb, lt-ltb, le-ltb}
 use Rattle.std.proofs.lemmas.List.Sums.{sum_by-cons}
@@ -9,14 +9,13 @@ use Rattle.sota_network.specs.Numbers.{listed}
 use Rattle.sota_network.specs.Walks.{IsLeastTime}
 use Rattle.sota_network.specs.Region.{pairs_at, need, table_cells, broad_cells, broad_at, pairs_between, need_between}
 use Rattle.sota_network.specs.declared.network.Arc.{Arc}
-use Rattle.sota_network.proofs.Listed.{listed-at, listed-agree, All-listed}
 use Rattle.sota_bounds.specs.Search.{time_at}
-use Rattle.sota_bounds.specs.Cells.{need_at, need_by, pairs_by, pairs_kept, table_by, broad_by}
+use Rattle.sota_bounds.specs.Cells.{need_at, need_by_times, pairs_by_need, pairs_by_lists, table_cells_by_lists, broad_cells_by_lists}
 use Rattle.sota_bounds.specs.Faults.{TABLE_LIMIT, BROAD_LIMIT, cells_fault}
 use Rattle.sota_bounds.specs.declared.fault.RegionFault.TheVariants.{TableCells, BroadCells}
 
 -- over plain numbers
-pairs-needed : (last : ℕ) (to from : Option ℕ) → pairs_by to (need_between last to from) ≡ pairs_between last to from
+pairs-needed : (last : ℕ) (to from : Option ℕ) → pairs_by_need to (need_between last to from) ≡ pairs_between last to from
 pairs-needed last (Some to) (Some from) =
     ⊎_elim
     (λ (out : last < to + from). rw (lt-leb (to + from) last out) (omega arith))
@@ -36,7 +35,7 @@ need-small last (Some to) None = omega arith
 need-small last None (Some from) = omega arith
 need-small last None None = omega arith
 
-none-needed : (to : Option ℕ) → pairs_by to 0 ≡ 0
+none-needed : (to : Option ℕ) → pairs_by_need to 0 ≡ 0
 none-needed None = refl
 none-needed (Some to) = omega arith
 
@@ -47,16 +46,15 @@ sum_by-agree f g (x ∷ xs) same =
     let more : sum_by f xs ≡ sum_by g xs = sum_by-agree f g xs (All-tail (λ y. f y ≡ g y) x xs same) in
     sum_by-cons f x xs ∙ (rw (here, more) (sym (sum_by-cons g x xs)))
 
--- of needs that are kept
-pub needs-small : (dest last : ℕ) (least from : List (Option ℕ)) (n : ℕ) → last ≤ 65535 → All (λ (m : ℕ). m ≤ 65536) (listed (need_by dest last least from) n)
-needs-small dest last least from n few =
-    All-listed (λ (m : ℕ). m ≤ 65536) (need_by dest last least from) n (λ i.
+-- of the need of a node
+pub need-few : (dest last : ℕ) (least from : List (Option ℕ)) → last ≤ 65535 → (i : ℕ) → need_by_times dest last least from i ≤ 65536
+need-few dest last least from few i =
     ⊎_elim
     (λ (same : i ≡ dest). rw (eq-eqb i dest same) (omega arith))
     (λ (apart : i ≡ dest → ⊥). rw (ne_eqb i dest apart) (omega (arith, need-small last (time_at least i) (time_at from i))))
-    (cases_eq i dest))
+    (cases_eq i dest)
 
--- least times of an ask, and the law of its region
+-- least times of an ask, and the laws of its region and of lists by number
 pub record IsAsked (net : Net) (origin dest last : ℕ) (least from : List (Option ℕ)) : Type 0 where
   pub valid : IsNet net
   pub nodes : length least ≡ net.nodes
@@ -64,43 +62,45 @@ pub record IsAsked (net : Net) (origin dest last : ℕ) (least from : List (Opti
   pub back : (i : ℕ) → IsNode net i → IsLeastTime net dest origin i (time_at from i)
   pub pairs : (i : ℕ) (to since : Option ℕ) → i ≢ dest → IsLeastTime net dest i dest to → IsLeastTime net dest origin i since → pairs_at net origin dest last i ≡ pairs_between last to since
   pub needs : (i : ℕ) (to since : Option ℕ) → i ≢ dest → IsLeastTime net dest i dest to → IsLeastTime net dest origin i since → need net origin dest last i ≡ need_between last to since
+  pub entry : (f : ℕ → ℕ) (n i other : ℕ) → 1 ≤ i → i ≤ n → get_or (listed f n) (i - 1) other ≡ f i
+  pub agree : (f g : ℕ → ℕ) (n : ℕ) → ((i : ℕ) → 1 ≤ i → i ≤ n → f i ≡ g i) → listed f n ≡ listed g n
   pub dest_pairs : pairs_at net origin dest last dest ≡ 0
   pub dest_need : need net origin dest last dest ≡ 0
 
 module _ (net : Net) (origin dest last : ℕ) (least from : List (Option ℕ)) (is : IsAsked net origin dest last least from) where
-  need-is : (i : ℕ) → IsNode net i → need_by dest last least from i ≡ need net origin dest last i
+  need-is : (i : ℕ) → IsNode net i → need_by_times dest last least from i ≡ need net origin dest last i
   need-is i node =
       ⊎_elim
       (λ (same : i ≡ dest). rw (eq-eqb i dest same) (sym (ap (need net origin dest last) same ∙ is.dest_need)))
       (λ (apart : i ≡ dest → ⊥). rw (ne_eqb i dest apart) (sym (is.needs i (time_at least i) (time_at from i) apart (is.onward i node) (is.back i node))))
       (cases_eq i dest)
 
-  pub needs-are : listed (need_by dest last least from) (length least) ≡ listed (need net origin dest last) net.nodes
-  needs-are = ap (listed (need_by dest last least from)) is.nodes ∙ listed-agree (need_by dest last least from) (need net origin dest last) net.nodes (λ i low high. need-is i (low, high))
+  pub needs-are : listed (need_by_times dest last least from) (length least) ≡ listed (need net origin dest last) net.nodes
+  needs-are = ap (listed (need_by_times dest last least from)) is.nodes ∙ is.agree (need_by_times dest last least from) (need net origin dest last) net.nodes (λ i low high. need-is i (low, high))
 
-  module _ (kept : List ℕ) (kept_is : kept ≡ listed (need_by dest last least from) (length least)) where
-    kept-at : (i : ℕ) → IsNode net i → need_at kept i ≡ need_by dest last least from i
+  module _ (kept : List ℕ) (kept_is : kept ≡ listed (need_by_times dest last least from) (length least)) where
+    kept-at : (i : ℕ) → IsNode net i → need_at kept i ≡ need_by_times dest last least from i
     kept-at i node =
-        ap (λ (ns : List ℕ). need_at ns i) kept_is ∙ listed-at (need_by dest last least from) (length least) i 0 node.0 (omega (arith, node.1, is.nodes))
+        ap (λ (ns : List ℕ). need_at ns i) kept_is ∙ is.entry (need_by_times dest last least from) (length least) i 0 node.0 (omega (arith, node.1, is.nodes))
 
-    pairs-is : (i : ℕ) → IsNode net i → pairs_kept least kept i ≡ pairs_at net origin dest last i
+    pairs-is : (i : ℕ) → IsNode net i → pairs_by_lists least kept i ≡ pairs_at net origin dest last i
     pairs-is i node =
-        ap (pairs_by (time_at least i)) (kept-at i node)
+        ap (pairs_by_need (time_at least i)) (kept-at i node)
         ∙ ⊎_elim
         (λ (same : i ≡ dest). rw (eq-eqb i dest same) (none-needed (time_at least i) ∙ sym (ap (pairs_at net origin dest last) same ∙ is.dest_pairs)))
         (λ (apart : i ≡ dest → ⊥).
         rw (ne_eqb i dest apart) (pairs-needed last (time_at least i) (time_at from i) ∙ sym (is.pairs i (time_at least i) (time_at from i) apart (is.onward i node) (is.back i node))))
         (cases_eq i dest)
 
-    pub table-is : table_by least kept (length least) ≡ table_cells net origin dest last
+    pub table-is : table_cells_by_lists least kept (length least) ≡ table_cells net origin dest last
     table-is =
-        ap (λ (n : ℕ). table_by least kept n) is.nodes
-        ∙ ap sum (listed-agree (pairs_kept least kept) (pairs_at net origin dest last) net.nodes (λ i low high. pairs-is i (low, high)))
+        ap (λ (n : ℕ). table_cells_by_lists least kept n) is.nodes
+        ∙ ap sum (is.agree (pairs_by_lists least kept) (pairs_at net origin dest last) net.nodes (λ i low high. pairs-is i (low, high)))
 
-    pub broad-is : broad_by last least kept net.arcs ≡ broad_cells net origin dest last
+    pub broad-is : broad_cells_by_lists last least kept net.arcs ≡ broad_cells net origin dest last
     broad-is =
-        sum_by-agree (λ (arc : Arc). broad_at last (pairs_kept least kept arc.tail) arc) (λ (arc : Arc). broad_at last (pairs_at net origin dest last arc.tail) arc) net.arcs
-        (All-weaker (IsArc net) (λ (arc : Arc). broad_at last (pairs_kept least kept arc.tail) arc ≡ broad_at last (pairs_at net origin dest last arc.tail) arc)
+        sum_by-agree (λ (arc : Arc). broad_at last (pairs_by_lists least kept arc.tail) arc) (λ (arc : Arc). broad_at last (pairs_at net origin dest last arc.tail) arc) net.arcs
+        (All-weaker (IsArc net) (λ (arc : Arc). broad_at last (pairs_by_lists least kept arc.tail) arc ≡ broad_at last (pairs_at net origin dest last arc.tail) arc)
         (λ arc valid. ap (λ (n : ℕ). broad_at last n arc) (pairs-is arc.tail valid.tail)) net.arcs is.valid.arcs)
 
 -- which fault it is

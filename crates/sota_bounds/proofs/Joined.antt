@@ -1,12 +1,16 @@
 -- Walks between the source of a search and a node, in the order in which the search meets their arcs.
-use Rattle.std.proofs.Common.{ℕ, ◌≡◌, ◌≢◌, ◌+◌, ◌≤◌, None, Some, refl, subst, arith}
-use Rattle.sota_hist.specs.Time.{least_tick}
+use Rattle.std.proofs.Common.{ℕ, ◌≡◌, ◌≢◌, ◌+◌, ◌≤◌, false, None, Some, refl, subst, arith}
+use Rattle.sota_hist.specs.Time.{is_closed, least_tick}
 use Rattle.sota_network.specs.Network.{Net, arc_at}
 use Rattle.sota_network.specs.Walks.{Walk, empty, step}
 use Rattle.sota_network.specs.declared.network.Arc.{Arc}
 use Rattle.sota_bounds.specs.Search.{start_of, end_of, IsLeastBetween}
 use Rattle.sota_bounds.specs.declared.search.Direction.{Direction}
 use Rattle.sota_bounds.specs.declared.search.Direction.TheVariants.{Along, Against}
+
+-- a walk may go over the arc
+abbrev pub IsUsable : ℕ → Arc → Type 0
+IsUsable dest arc = (arc.tail ≢ dest) × (is_closed arc.time ≡ false)
 
 -- a walk between the source and node i
 abbrev pub Joins : Net → ℕ → Direction → ℕ → ℕ → ℕ → Type 0
@@ -18,43 +22,43 @@ joins-start net dest Along source = empty
 joins-start net dest Against source = empty
 
 -- one arc more at the end
-lengthened : (net : Net) (dest e : ℕ) (arc : Arc) → arc_at net e ≡ Some arc → arc.tail ≢ dest → {i j n : ℕ} → Walk net dest i j n → arc.tail ≡ j → Walk net dest i arc.head (n + least_tick arc.time)
-lengthened net dest e arc number leaves {i} empty at =
+lengthened : (net : Net) (dest e : ℕ) (arc : Arc) → arc_at net e ≡ Some arc → IsUsable dest arc → {i j n : ℕ} → Walk net dest i j n → arc.tail ≡ j → Walk net dest i arc.head (n + least_tick arc.time)
+lengthened net dest e arc number usable {i} empty at =
     let sum : least_tick arc.time + 0 ≡ 0 + least_tick arc.time = omega arith in
-    let one : Walk net dest arc.tail arc.head (least_tick arc.time + 0) = step {j = arc.head} {n = 0} e arc number leaves empty in
+    let one : Walk net dest arc.tail arc.head (least_tick arc.time + 0) = step {j = arc.head} {n = 0} e arc number usable.0 usable.1 empty in
     subst (λ (m : ℕ). Walk net dest i arc.head m) sum (subst (λ (k : ℕ). Walk net dest k arc.head (least_tick arc.time + 0)) at one)
-lengthened net dest e arc number leaves (step {j} {n} f first its_number its_leaves rest) at =
+lengthened net dest e arc number usable (step {j} {n} f first its_number its_leaves its_open rest) at =
     let sum : least_tick first.time + (n + least_tick arc.time) ≡ least_tick first.time + n + least_tick arc.time = omega arith in
     subst (λ (m : ℕ). Walk net dest first.tail arc.head m) sum
-    (step {j = arc.head} {n = n + least_tick arc.time} f first its_number its_leaves (lengthened net dest e arc number leaves rest at))
+    (step {j = arc.head} {n = n + least_tick arc.time} f first its_number its_leaves its_open (lengthened net dest e arc number usable rest at))
 
-pub joins-step : (net : Net) (dest : ℕ) (direction : Direction) (source e : ℕ) (arc : Arc) (n : ℕ) → arc_at net e ≡ Some arc → arc.tail ≢ dest → Joins net dest direction source (start_of direction arc) n
+pub joins-step : (net : Net) (dest : ℕ) (direction : Direction) (source e : ℕ) (arc : Arc) (n : ℕ) → arc_at net e ≡ Some arc → IsUsable dest arc → Joins net dest direction source (start_of direction arc) n
     → Joins net dest direction source (end_of direction arc) (n + least_tick arc.time)
-joins-step net dest Along source e arc n number leaves walk = lengthened net dest e arc number leaves walk refl
-joins-step net dest Against source e arc n number leaves walk =
+joins-step net dest Along source e arc n number usable walk = lengthened net dest e arc number usable walk refl
+joins-step net dest Against source e arc n number usable walk =
     let sum : least_tick arc.time + n ≡ n + least_tick arc.time = omega arith in
-    subst (λ (m : ℕ). Walk net dest arc.tail source m) sum (step {j = source} {n = n} e arc number leaves walk)
+    subst (λ (m : ℕ). Walk net dest arc.tail source m) sum (step {j = source} {n = n} e arc number usable.0 usable.1 walk)
 
 -- what holds at the source, and is kept over each arc, holds along all these walks
 module _ (net : Net) (dest : ℕ) (direction : Direction) (source : ℕ) (P : ℕ → ℕ → Type 0) where
   abbrev pub Keeps : Type 0
-  Keeps = (e : ℕ) (arc : Arc) (n : ℕ) → arc_at net e ≡ Some arc → arc.tail ≢ dest → Joins net dest direction source (start_of direction arc) n
+  Keeps = (e : ℕ) (arc : Arc) (n : ℕ) → arc_at net e ≡ Some arc → IsUsable dest arc → Joins net dest direction source (start_of direction arc) n
       → P (start_of direction arc) n → P (end_of direction arc) (n + least_tick arc.time)
 
 against : (net : Net) (dest : ℕ) (P : ℕ → ℕ → Type 0) {i source n : ℕ} → Keeps net dest Against source P → P source 0 → Walk net dest i source n → P i n
 against net dest P keeps first empty = first
-against net dest P keeps first (step {j} {n} e arc number leaves rest) =
+against net dest P keeps first (step {j} {n} e arc number leaves passable rest) =
     let sum : n + least_tick arc.time ≡ least_tick arc.time + n = omega arith in
-    subst (P arc.tail) sum (keeps e arc n number leaves rest (against net dest P keeps first rest))
+    subst (P arc.tail) sum (keeps e arc n number (leaves, passable) rest (against net dest P keeps first rest))
 
 along : (net : Net) (dest source : ℕ) (P : ℕ → ℕ → Type 0) → Keeps net dest Along source P → (m : ℕ) {i j n : ℕ} → Walk net dest source i m → P i m → Walk net dest i j n → P j (m + n)
 along net dest source P keeps m {i} done here empty =
     let sum : m ≡ m + 0 = omega arith in
     subst (P i) sum here
-along net dest source P keeps m {i} {j} done here (step {n = rest_sum} e arc number leaves rest) =
+along net dest source P keeps m {i} {j} done here (step {n = rest_sum} e arc number leaves passable rest) =
     let sum : m + least_tick arc.time + rest_sum ≡ m + (least_tick arc.time + rest_sum) = omega arith in
     subst (P j) sum
-    (along net dest source P keeps (m + least_tick arc.time) (lengthened net dest e arc number leaves done refl) (keeps e arc m number leaves done here) rest)
+    (along net dest source P keeps (m + least_tick arc.time) (lengthened net dest e arc number (leaves, passable) done refl) (keeps e arc m number (leaves, passable) done here) rest)
 
 pub joins-kept : (net : Net) (dest : ℕ) (direction : Direction) (source : ℕ) (P : ℕ → ℕ → Type 0) → Keeps net dest direction source P → P source 0 → (i n : ℕ) → Joins net dest direction source i n → P i n
 joins-kept net dest Along source P keeps first i n walk =

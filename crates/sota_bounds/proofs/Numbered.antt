@@ -98,6 +98,10 @@ numbers-short test n (x ∷ xs) =
     ⊎_elim (λ (yes : test x ≡ true). rw yes (omega (arith, numbers-short test (suc n) xs))) (λ (no : test x ≡ false). rw no (omega (arith, numbers-short test (suc n) xs))) (cases_Bool (test x))
 
 -- ---- the arcs of a network
+-- what has a number is an arc of the network
+abbrev pub HasArcs : Net → Type 0
+HasArcs net = (e : ℕ) (arc : Arc) → arc_at net e ≡ Some arc → IsArc net arc
+
 pub start-valid : (net : Net) (direction : Direction) (arc : Arc) → IsArc net arc → IsNode net (start_of direction arc)
 start-valid net Along arc is = is.tail
 start-valid net Against arc is = is.head

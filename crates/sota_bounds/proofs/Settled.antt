@@ -8,40 +8,38 @@ use Rattle.std.proofs.lemmas.List.Sums.{count_by-le-length}
 use Rattle.std.proofs.lemmas.List.Elements.{All-contains, All-tail, All-append, All-weaker, Contains-append_left, Contains-append_right}
 use Rattle.std.proofs.lemmas.List.Sorted.{All-permutation, Contains-permutation, length_permutation, IsPermutation-sym}
 use Rattle.std.proofs.lemmas.Option.{none-some}
-use Rattle.std.proofs.lemmas.Bool.{cases_eq, eqb-false, ne_eqb}
-use Rattle.sota_hist.specs.Time.{least_tick}
-use Rattle.sota_network.specs.Network.{Net, IsNet, IsNode, arc_at}
+use Rattle.std.proofs.lemmas.Bool.{cases_eq, eqb-false, ne_eqb, true≢false}
+use Rattle.sota_hist.specs.Time.{is_closed, least_tick}
+use Rattle.sota_network.specs.Network.{Net, IsNode, arc_at}
 use Rattle.sota_network.specs.declared.network.Arc.{Arc}
-use Rattle.sota_bounds.specs.Search.{start_of, end_of, arcs_at, time_at, next_visit, next_visits, TICK_LIMIT}
+use Rattle.sota_units.specs.Limits.{TICK_LIMIT}
+use Rattle.sota_bounds.specs.Search.{start_of, end_of, arcs_at, time_at, further, next_visit, next_visits}
 use Rattle.sota_bounds.specs.declared.search.Direction.{Direction}
 use Rattle.sota_bounds.specs.declared.search.Visit.{Visit}
-use Rattle.sota_network.proofs.Recursion.{arc-valid}
-use Rattle.sota_bounds.proofs.Numbered.{in-head, start-valid, end-valid, IsOut, outs, out-has, filter_map-all, filter_map-has, filter_map-short, numbers-short}
-use Rattle.sota_bounds.proofs.Joined.{Joins, IsLeastJoin, joins-step}
+use Rattle.sota_bounds.proofs.Numbered.{HasArcs, in-head, start-valid, end-valid, IsOut, outs, out-has, filter_map-all, filter_map-has, filter_map-short, numbers-short}
+use Rattle.sota_bounds.proofs.Joined.{IsUsable, Joins, IsLeastJoin, joins-step}
 use Rattle.sota_bounds.proofs.Settling.{settled, IsWait, IsSettled, Waits, IsSearch, settled-here, settled-other, settled-more, still-waits, earliest-least}
-
--- the visit one arc further
-abbrev pub further : Direction → Visit → Arc → Visit
-further direction visit arc = record { time = record { 0 = visit.time.0 + least_tick arc.time }; node = end_of direction arc }
 
 unless : {X : Type 0} (b : Bool) (x y : X) → cond b None (Some x) ≡ Some y → (b ≡ false) × (x ≡ y)
 unless true x y is = absurd (none-some y is)
 unless false x y is = (refl, (let same : x ≡ y = cc in same))
 
-or-false : (a b : Bool) → (a || b) ≡ false → a ≡ false
-or-false true b is = is
-or-false false b is = refl
+or-false : (a b : Bool) → (a || b) ≡ false → (a ≡ false) × (b ≡ false)
+or-false true b is = absurd (true≢false is)
+or-false false b is = (refl, is)
 
-next-read : (direction : Direction) (dest : ℕ) (visit : Visit) (times : List (Option ℕ)) (arc : Arc) (w : Visit) → next_visit direction dest visit times arc ≡ Some w → (arc.tail ≢ dest) × (further direction visit arc ≡ w)
+next-read : (direction : Direction) (dest : ℕ) (visit : Visit) (times : List (Option ℕ)) (arc : Arc) (w : Visit) → next_visit direction dest visit times arc ≡ Some w → IsUsable dest arc × (further direction visit arc ≡ w)
 next-read direction dest visit times arc w is =
-    let parts = unless ((arc.tail == dest) || is_some (time_at times (end_of direction arc))) (further direction visit arc) w is in
-    (eqb-false arc.tail dest (or-false (arc.tail == dest) (is_some (time_at times (end_of direction arc))) parts.0), parts.1)
+    let done = is_some (time_at times (end_of direction arc)) in
+    let parts = unless ((arc.tail == dest) || (is_closed arc.time || done)) (further direction visit arc) w is in
+    let apart = or-false (arc.tail == dest) (is_closed arc.time || done) parts.0 in
+    ((eqb-false arc.tail dest apart.0, (or-false (is_closed arc.time) done apart.1).0), parts.1)
 
-next-here : (direction : Direction) (dest : ℕ) (visit : Visit) (times : List (Option ℕ)) (arc : Arc) → arc.tail ≢ dest → time_at times (end_of direction arc) ≡ None
+next-here : (direction : Direction) (dest : ℕ) (visit : Visit) (times : List (Option ℕ)) (arc : Arc) → IsUsable dest arc → time_at times (end_of direction arc) ≡ None
     → next_visit direction dest visit times arc ≡ Some (further direction visit arc)
-next-here direction dest visit times arc leaves never = rw (ne_eqb arc.tail dest leaves, never) refl
+next-here direction dest visit times arc usable never = rw (ne_eqb arc.tail dest usable.0, usable.1, never) refl
 
-module _ (net : Net) (valid : IsNet net) (dest : ℕ) (direction : Direction) (source : ℕ) (visit : Visit) (times : List (Option ℕ)) where
+module _ (net : Net) (valid : HasArcs net) (dest : ℕ) (direction : Direction) (source : ℕ) (visit : Visit) (times : List (Option ℕ)) where
   -- the visits that are queued come from walks
   queued-one : (e : ℕ) (w : Visit) → Joins net dest direction source visit.node visit.time.0 → (arc : Arc) → arc_at net e ≡ Some arc → start_of direction arc ≡ visit.node
       → option_and_then (next_visit direction dest visit times) (arc_at net e) ≡ Some w → IsNode net w.node × Joins net dest direction source w.node w.time.0
@@ -49,7 +47,7 @@ module _ (net : Net) (valid : IsNet net) (dest : ℕ) (direction : Direction) (s
       let parts = next-read direction dest visit times arc w (sym (ap (option_and_then (next_visit direction dest visit times)) number) ∙ is) in
       let from_start : Joins net dest direction source (start_of direction arc) visit.time.0 = rw start walk in
       subst (λ (v : Visit). IsNode net v.node × Joins net dest direction source v.node v.time.0) parts.1
-      (end-valid net direction arc (arc-valid net valid e arc number), joins-step net dest direction source e arc visit.time.0 number parts.0 from_start)
+      (end-valid net direction arc (valid e arc number), joins-step net dest direction source e arc visit.time.0 number parts.0 from_start)
 
   pub queued-all : Joins net dest direction source visit.node visit.time.0 → All (λ (w : Visit). IsNode net w.node × Joins net dest direction source w.node w.time.0) (next_visits net direction dest visit times)
   queued-all walk =
@@ -59,12 +57,12 @@ module _ (net : Net) (valid : IsNet net) (dest : ℕ) (direction : Direction) (s
       queued-one e w walk out.arc out.number out.start is)
 
   -- each arc at the node leads to what is settled, or to one of them
-  pub queued-has : (e : ℕ) (arc : Arc) → arc_at net e ≡ Some arc → arc.tail ≢ dest → start_of direction arc ≡ visit.node → time_at times (end_of direction arc) ≡ None
+  pub queued-has : (e : ℕ) (arc : Arc) → arc_at net e ≡ Some arc → IsUsable dest arc → start_of direction arc ≡ visit.node → time_at times (end_of direction arc) ≡ None
       → Contains (next_visits net direction dest visit times) (further direction visit arc)
-  queued-has e arc number leaves start never =
+  queued-has e arc number usable start never =
       filter_map-has (λ n. option_and_then (next_visit direction dest visit times) (arc_at net n)) (arcs_at direction net visit.node) e (further direction visit arc)
       (out-has net direction visit.node e arc number start)
-      (ap (option_and_then (next_visit direction dest visit times)) number ∙ next-here direction dest visit times arc leaves never)
+      (ap (option_and_then (next_visit direction dest visit times)) number ∙ next-here direction dest visit times arc usable never)
 
 -- what a settled node has at its end, or nothing
 end-cases : (times : List (Option ℕ)) (i : ℕ) (found : Option ℕ) → time_at times i ≡ found → IsSettled times i ⊎ (time_at times i ≡ None)
@@ -89,7 +87,7 @@ pub record IsStep (net : Net) (dest : ℕ) (direction : Direction) (times new_ti
   pub queued : IsPermutation (rest ++ next_visits net direction dest visit new_times) queue
   pub soon : (limit : ℕ) → visit.time.0 + TICK_LIMIT ≤ limit → All (λ (w : Visit). w.time.0 ≤ limit) rest → All (λ (w : Visit). w.time.0 ≤ limit) queue
 
-module _ (net : Net) (valid : IsNet net) (dest : ℕ) (direction : Direction) (source : ℕ) (at_source : IsNode net source) (times new_times : List (Option ℕ)) (old rest queue : List Visit) (visit : Visit)
+module _ (net : Net) (valid : HasArcs net) (dest : ℕ) (direction : Direction) (source : ℕ) (at_source : IsNode net source) (times new_times : List (Option ℕ)) (old rest queue : List Visit) (visit : Visit)
     (is : IsSearch net dest direction source times old) (step : IsStep net dest direction times new_times old rest queue visit) where
   among : Contains old visit
   among = Contains-permutation (visit ∷ rest) old visit (IsPermutation-sym old (visit ∷ rest) step.moved) (in-head visit rest)
@@ -157,18 +155,18 @@ module _ (net : Net) (valid : IsNet net) (dest : ℕ) (direction : Direction) (s
       (λ (apart : i ≡ visit.node → ⊥). is.least i n node (sym (elsewhere i node apart) ∙ at))
       (cases_eq i visit.node)
 
-  new-closed : (e : ℕ) (arc : Arc) (n : ℕ) → arc_at net e ≡ Some arc → arc.tail ≢ dest → time_at new_times (start_of direction arc) ≡ Some n
+  new-closed : (e : ℕ) (arc : Arc) (n : ℕ) → arc_at net e ≡ Some arc → IsUsable dest arc → time_at new_times (start_of direction arc) ≡ Some n
       → IsSettled new_times (end_of direction arc) ⊎ Waits queue (end_of direction arc) (n + least_tick arc.time)
-  new-closed e arc n number leaves at =
-      let start_node : IsNode net (start_of direction arc) = start-valid net direction arc (arc-valid net valid e arc number) in
-      let end_node : IsNode net (end_of direction arc) = end-valid net direction arc (arc-valid net valid e arc number) in
+  new-closed e arc n number usable at =
+      let start_node : IsNode net (start_of direction arc) = start-valid net direction arc (valid e arc number) in
+      let end_node : IsNode net (end_of direction arc) = end-valid net direction arc (valid e arc number) in
       ⊎_elim
       (λ (same : start_of direction arc ≡ visit.node).
       let time : visit.time.0 ≡ n = some-same visit.time.0 n (sym here ∙ ap (time_at new_times) (sym same) ∙ at) in
       ⊎_elim
       (λ (done : IsSettled new_times (end_of direction arc)). inl done)
       (λ (never : time_at new_times (end_of direction arc) ≡ None).
-      let has : Contains (next_visits net direction dest visit new_times) (further direction visit arc) = queued-has net valid dest direction source visit new_times e arc number leaves same never in
+      let has : Contains (next_visits net direction dest visit new_times) (further direction visit arc) = queued-has net valid dest direction source visit new_times e arc number usable same never in
       inr (
         further direction visit arc,
         Contains-permutation (rest ++ next_visits net direction dest visit new_times) queue (further direction visit arc) step.queued
@@ -178,7 +176,7 @@ module _ (net : Net) (valid : IsNet net) (dest : ℕ) (direction : Direction) (s
       ))
       (end-cases new_times (end_of direction arc) (time_at new_times (end_of direction arc)) refl))
       (λ (apart : start_of direction arc ≡ visit.node → ⊥).
-      goes-on (end_of direction arc) (n + least_tick arc.time) end_node (is.closed e arc n number leaves (sym (elsewhere (start_of direction arc) start_node apart) ∙ at)))
+      goes-on (end_of direction arc) (n + least_tick arc.time) end_node (is.closed e arc n number usable (sym (elsewhere (start_of direction arc) start_node apart) ∙ at)))
       (cases_eq (start_of direction arc) visit.node)
 
   pub settle : IsSearch net dest direction source new_times queue

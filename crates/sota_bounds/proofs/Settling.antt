@@ -10,14 +10,14 @@ use Rattle.std.proofs.lemmas.List.Sorted.{All-permutation, Contains-permutation}
 use Rattle.std.proofs.lemmas.Option.{none-some}
 use Rattle.std.proofs.lemmas.Bool.{true≢false}
 use Rattle.sota_hist.specs.Time.{least_tick}
-use Rattle.sota_network.specs.Network.{Net, IsNet, IsNode, arc_at}
+use Rattle.sota_network.specs.Network.{Net, IsNode, arc_at}
 use Rattle.sota_network.specs.declared.network.Arc.{Arc}
-use Rattle.sota_bounds.specs.Search.{start_of, end_of, time_at, IsLeastBetween, TICK_LIMIT}
+use Rattle.sota_units.specs.Limits.{TICK_LIMIT}
+use Rattle.sota_bounds.specs.Search.{start_of, end_of, time_at, IsLeastBetween}
 use Rattle.sota_bounds.specs.declared.search.Direction.{Direction}
 use Rattle.sota_bounds.specs.declared.search.Visit.{Visit}
-use Rattle.sota_network.proofs.Recursion.{arc-valid}
-use Rattle.sota_bounds.proofs.Numbered.{in-cons, in-head, start-valid, end-valid}
-use Rattle.sota_bounds.proofs.Joined.{Joins, IsLeastJoin, least-some, least-none, joins-start, joins-step, joins-kept}
+use Rattle.sota_bounds.proofs.Numbered.{HasArcs, in-cons, in-head, start-valid, end-valid}
+use Rattle.sota_bounds.proofs.Joined.{IsUsable, Joins, IsLeastJoin, least-some, least-none, joins-start, joins-step, joins-kept}
 
 -- how many nodes are settled
 abbrev pub settled : List (Option ℕ) → ℕ
@@ -44,7 +44,7 @@ pub record IsSearch (net : Net) (dest : ℕ) (direction : Direction) (source : �
   pub waits : All (IsWait net dest direction source (settled times)) queue
   pub least : (i n : ℕ) → IsNode net i → time_at times i ≡ Some n → IsLeastJoin net dest direction source i n
   pub first : IsSettled times source ⊎ Waits queue source 0
-  pub closed : (e : ℕ) (arc : Arc) (n : ℕ) → arc_at net e ≡ Some arc → arc.tail ≢ dest → time_at times (start_of direction arc) ≡ Some n
+  pub closed : (e : ℕ) (arc : Arc) (n : ℕ) → arc_at net e ≡ Some arc → IsUsable dest arc → time_at times (start_of direction arc) ≡ Some n
       → IsSettled times (end_of direction arc) ⊎ Waits queue (end_of direction arc) (n + least_tick arc.time)
 
 -- ---- one time more
@@ -90,8 +90,8 @@ visited net dest direction source times queue rest visit k is moved at =
     let wait = All-head (IsWait net dest direction source (settled times)) visit rest (All-permutation (IsWait net dest direction source (settled times)) queue (visit ∷ rest) moved is.waits) in
     omega (arith, wait.node, is.count)
 
-module _ (net : Net) (valid : IsNet net) (dest : ℕ) (direction : Direction) (source : ℕ) (at_source : IsNode net source) where
-  -- ---- a walk leaves what is settled over an arc, so that something waits no later than it ends
+module _ (net : Net) (valid : HasArcs net) (dest : ℕ) (direction : Direction) (source : ℕ) (at_source : IsNode net source) where
+  -- ---- a walk usable what is settled over an arc, so that something waits no later than it ends
   abbrev pub Reached : List (Option ℕ) → List Visit → ℕ → ℕ → Type 0
   Reached times queue i n = IsNode net i × (((m : ℕ) × (time_at times i ≡ Some m) × (m ≤ n)) ⊎ ((visit : Visit) × Contains queue visit × (visit.time.0 ≤ n)))
 
@@ -111,11 +111,11 @@ module _ (net : Net) (valid : IsNet net) (dest : ℕ) (direction : Direction) (s
           is.first,
     )
 
-    reached-kept : (e : ℕ) (arc : Arc) (n : ℕ) → arc_at net e ≡ Some arc → arc.tail ≢ dest → Joins net dest direction source (start_of direction arc) n
+    reached-kept : (e : ℕ) (arc : Arc) (n : ℕ) → arc_at net e ≡ Some arc → IsUsable dest arc → Joins net dest direction source (start_of direction arc) n
         → Reached times queue (start_of direction arc) n → Reached times queue (end_of direction arc) (n + least_tick arc.time)
-    reached-kept e arc n number leaves walk here =
-        let node : IsNode net (end_of direction arc) = end-valid net direction arc (arc-valid net valid e arc number) in
-        let longer : Joins net dest direction source (end_of direction arc) (n + least_tick arc.time) = joins-step net dest direction source e arc n number leaves walk in (
+    reached-kept e arc n number usable walk here =
+        let node : IsNode net (end_of direction arc) = end-valid net direction arc (valid e arc number) in
+        let longer : Joins net dest direction source (end_of direction arc) (n + least_tick arc.time) = joins-step net dest direction source e arc n number usable walk in (
           node,
           ⊎_elim
               (λ (done : (m : ℕ) × (time_at times (start_of direction arc) ≡ Some m) × (m ≤ n)).
@@ -123,7 +123,7 @@ module _ (net : Net) (valid : IsNet net) (dest : ℕ) (direction : Direction) (s
               (λ (end_done : IsSettled times (end_of direction arc)). inl (settled-soon (end_of direction arc) (n + least_tick arc.time) node longer end_done))
               (λ (waits : Waits queue (end_of direction arc) (done.0 + least_tick arc.time)).
               inr (waits-soon (end_of direction arc) (done.0 + least_tick arc.time) (n + least_tick arc.time) (let z : done.0 + least_tick arc.time ≤ n + least_tick arc.time = omega (arith, done.2) in z) waits))
-              (is.closed e arc done.0 number leaves done.1))
+              (is.closed e arc done.0 number usable done.1))
               (λ (early : (visit : Visit) × Contains queue visit × (visit.time.0 ≤ n)).
               inr (early.0, early.1, (let z : early.0.time.0 ≤ n + least_tick arc.time = omega (arith, early.2) in z)))
               here.1,
@@ -169,9 +169,9 @@ module _ (net : Net) (valid : IsNet net) (dest : ℕ) (direction : Direction) (s
           waits = All-tail (IsWait net dest direction source (settled times)) visit rest (All-permutation (IsWait net dest direction source (settled times)) queue (visit ∷ rest) moved is.waits);
           least = is.least;
           first = ⊎_elim (λ (s : IsSettled times source). inl s) (λ (w : Waits queue source 0). goes_on source 0 w) is.first;
-          closed = λ e arc n number leaves here.
+          closed = λ e arc n number usable here.
               ⊎_elim (λ (s : IsSettled times (end_of direction arc)). inl s) (λ (w : Waits queue (end_of direction arc) (n + least_tick arc.time)). goes_on (end_of direction arc) (n + least_tick arc.time) w)
-              (is.closed e arc n number leaves here);
+              (is.closed e arc n number usable here);
         }
 
   -- the search begins with a visit to the source, and nothing is settled
@@ -188,5 +188,5 @@ module _ (net : Net) (valid : IsNet net) (dest : ℕ) (direction : Direction) (s
             (All-cons (IsWait net dest direction source (settled times)) visit [] (record { node = node; walk = walk; soon = soon }) (All-nil (IsWait net dest direction source (settled times))));
         least = λ i n node here. absurd (unsettled i n node here);
         first = inr (visit, Contains-permutation (visit ∷ []) queue visit moved (in-head visit []), at, time);
-        closed = λ e arc n number leaves here. absurd (unsettled (start_of direction arc) n (start-valid net direction arc (arc-valid net valid e arc number)) here);
+        closed = λ e arc n number usable here. absurd (unsettled (start_of direction arc) n (start-valid net direction arc (valid e arc number)) here);
       }

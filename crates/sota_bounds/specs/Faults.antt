@@ -1,9 +1,10 @@
 -- When the region of an ask is too large to plan for.
-use Rattle.std.specs.Prelude.{ℕ, ◌≡◌, nat_lt, Option, None, Some, if◌then◌else◌}
+use Rattle.std.specs.Prelude.{ℕ, nat_lt, Bool, true, false, Option, None, Some, if◌then◌else◌}
 use Rattle.sota_network.specs.Network.{Net}
 use Rattle.sota_network.specs.Region.{table_cells, broad_cells}
 use Rattle.sota_bounds.specs.declared.fault.RegionFault.{RegionFault}
-use Rattle.sota_bounds.specs.declared.fault.RegionFault.TheVariants.{TableCells, BroadCells, NoMemory}
+use Rattle.sota_bounds.specs.declared.fault.RegionFault.TheVariants.{TableCells, BroadCells}
+use Rattle.sota_bounds.specs.declared.fault.RegionFault.TheVariants.{NoMemory}
 
 -- the most table cells and broad cells that are planned for
 abbrev pub TABLE_LIMIT : ℕ
@@ -20,9 +21,10 @@ cells_fault table broad =
 
 -- too many table cells, or else too many broad cells
 abbrev pub region_fault : Net → ℕ → ℕ → ℕ → Option RegionFault
-region_fault net origin dest budget = cells_fault (table_cells net origin dest budget) (broad_cells net origin dest budget)
+region_fault net origin dest budget =
+    cells_fault (table_cells net origin dest budget) (broad_cells net origin dest budget)
 
--- this fault and no other, but for want of memory, which has no cause in the network
-abbrev pub IsFault : Option RegionFault → RegionFault → Type 0
-IsFault expected NoMemory = Unit {0}
-IsFault expected fault = expected ≡ Some fault
+-- want of memory has no cause in the network
+abbrev pub is_shortage : RegionFault → Bool
+is_shortage NoMemory = true
+is_shortage _ = false

@@ -7,7 +7,8 @@ use Rattle.sota_network.specs.Region as region
 use Rattle.sota_bounds.specs.Search.{time_at}
 use Rattle.sota_bounds.specs.declared.ask.AskRegion.{AskRegion}
 
--- the region of this ask: its numbers, each node's least time to the destination and need, and the two counts
+-- the region of this ask: its numbers, each node's least time to the destination and need, and the
+-- two counts
 pub record IsRegion (made : AskRegion) (net : Net) (origin dest budget : ℕ) : Type 0 where
   pub asked : (made.origin ≡ origin) × (made.dest ≡ dest) × (made.budget ≡ budget)
   pub nodes : length made.least ≡ net.nodes

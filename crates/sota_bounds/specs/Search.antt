@@ -1,10 +1,11 @@
 -- What a search for least times has found, in either direction.
-use Rattle.std.specs.Prelude.{ℕ, ◌-◌, ◌+◌, ◌==◌, ◌||◌, List, slice_index_or, Option, None, Some, if◌then◌else◌}
+use Rattle.std.specs.Prelude.{ℕ, ◌-◌, ◌+◌, ◌==◌, ◌||◌, List, slice_index_or}
+use Rattle.std.specs.Prelude.{Option, None, Some, if◌then◌else◌}
 use Rattle.std.specs.List.{filter_map}
 use Rattle.std.specs.Option.{is_some, option_and_then}
 use Rattle.std.specs.Ordering.{nat_cmp, ordering_then}
 use Rattle.std.specs.declared.cmp.Ordering.{Ordering}
-use Rattle.sota_hist.specs.Time.{least_tick}
+use Rattle.sota_hist.specs.Time.{is_closed, least_tick}
 use Rattle.sota_network.specs.Network.{Net, arc_at}
 use Rattle.sota_network.specs.Numbers.{numbers}
 use Rattle.sota_network.specs.Walks.{IsLeastTime}
@@ -12,10 +13,6 @@ use Rattle.sota_network.specs.declared.network.Arc.{Arc}
 use Rattle.sota_bounds.specs.declared.search.Direction.{Direction}
 use Rattle.sota_bounds.specs.declared.search.Direction.TheVariants.{Along, Against}
 use Rattle.sota_bounds.specs.declared.search.Visit.{Visit}
-
--- the greatest tick that a histogram can have: it is a number of 32 bits
-abbrev pub TICK_LIMIT : ℕ
-TICK_LIMIT = 4294967295
 
 -- a search goes over an arc from this end
 abbrev pub start_of : Direction → Arc → ℕ
@@ -35,16 +32,23 @@ arcs_at direction net node = numbers (λ arc. start_of direction arc == node) 1 
 abbrev pub time_at : List (Option ℕ) → ℕ → Option ℕ
 time_at times i = slice_index_or times (i - 1) None
 
--- the visit to which a settled one leads over an arc: none where the arc leaves the destination, or its end is settled
+-- the visit one arc further
+abbrev pub further : Direction → Visit → Arc → Visit
+further direction visit arc =
+    record { time = record { 0 = visit.time.0 + least_tick arc.time }; node = end_of direction arc }
+
+-- the visit to which a settled one leads over an arc: none where the arc leaves the destination or
+-- is closed, or its end is settled
 abbrev pub next_visit : Direction → ℕ → Visit → List (Option ℕ) → Arc → Option Visit
 next_visit direction dest visit times arc =
-    if (arc.tail == dest) || is_some (time_at times (end_of direction arc)) then None
-    else Some (record { time = record { 0 = visit.time.0 + least_tick arc.time }; node = end_of direction arc })
+    if (arc.tail == dest) || (is_closed arc.time || is_some (time_at times (end_of direction arc)))
+    then None else Some (further direction visit arc)
 
 -- those over all arcs at its node
 abbrev pub next_visits : Net → Direction → ℕ → Visit → List (Option ℕ) → List Visit
 next_visits net direction dest visit times =
-    filter_map (λ e. option_and_then (next_visit direction dest visit times) (arc_at net e)) (arcs_at direction net visit.node)
+    filter_map (λ e. option_and_then (next_visit direction dest visit times) (arc_at net e))
+    (arcs_at direction net visit.node)
 
 -- the earlier visit is the greater one, and of two at one time that to the greater node
 abbrev pub by_time : Visit → Visit → Ordering

@@ -1,17 +1,17 @@
 // The region of an ask.
 ghost use Rattle.std.specs.Prelude.{◌≡◌, ◌≤◌, IfOk, IfErr, OnOk, None};
+ghost use Rattle.sota_units.specs.Limits.{BUDGET_LIMIT};
+ghost use Rattle.sota_units.specs.Memory.{IsFault};
 ghost use Rattle.sota_network.specs.Network.{IsNode};
-ghost use Rattle.sota_network.specs.Grid.{BUDGET_LIMIT};
-ghost use Rattle.sota_bounds.specs.Faults.{region_fault, IsFault};
+ghost use Rattle.sota_bounds.specs.Faults.{region_fault, is_shortage};
 ghost use Rattle.sota_bounds.specs.Regions.{IsRegion};
 
 use crate::RegionFault;
 use crate::cells::{broad_cells_of, needs_of, table_cells_of};
 use crate::least::{least_from, least_to};
-use crate::lists::{LeastTimes, Needs};
 use sota_network::Network;
-use sota_network::laws::region_by_least_times;
-use sota_units::{NoMemory, NodeId};
+use sota_network::laws::{lists_by_number, region_by_least_times};
+use sota_units::{Items, NoMemory, NodeId};
 use std::alloc::Global;
 
 /// The region of an ask: the pairs of a node and a budget from which the destination can be
@@ -22,10 +22,12 @@ pub struct AskRegion {
     pub dest: NodeId,
     /// The whole budget, in ticks.
     pub budget: u32,
-    /// The least time from each node to the destination.
-    pub least: LeastTimes,
-    /// One more than the greatest budget of each node's pairs, 0 where it has none.
-    pub need: Needs,
+    /// The least time from each node to the destination, in ticks: that of node `i` stands at
+    /// index `i - 1`. None: unreachable.
+    pub least: Items<Option<u64>>,
+    /// One more than the greatest budget of each node's pairs, 0 where it has none: that of node
+    /// `i` stands at index `i - 1`.
+    pub need: Items<u32>,
     /// The number of pairs.
     pub table_cells: u64,
     /// For each broad arc the pairs of its tail and the span of its ticks within the budget.
@@ -53,7 +55,8 @@ pub fn region(
     requires budget { budget ≤ BUDGET_LIMIT }
     ensures made { IfOk result (λ made. IsRegion made network.now origin dest budget) }
     ensures ok { OnOk result (region_fault network.now origin dest budget ≡ None) }
-    ensures fault { IfErr result (λ fault. IsFault (region_fault network.now origin dest budget) fault) }
+    ensures fault { IfErr result (λ fault.
+        IsFault is_shortage (region_fault network.now origin dest budget) fault) }
 {
     let made = whole_region(alloc, network, origin, dest, budget)?;
     if made.table_cells > TABLE_LIMIT {
@@ -79,19 +82,18 @@ fn whole_region(
     ensures { IfOk result (λ made. IsRegion made network.now origin dest budget) }
 {
     region_by_least_times();
-    network.is_valid();
-    let _limit = network.nodes();
+    lists_by_number();
     let least = least_to(alloc, network, dest)?;
     let from = least_from(alloc, network, origin, dest)?;
-    let need = needs_of(alloc, &least, &from, dest, budget)?;
+    let need = needs_of(alloc, network.nodes(), &least, &from, dest, budget)?;
     let table_cells = table_cells_of(&least, &need);
     let broad_cells = broad_cells_of(network, &least, &need, budget);
     Ok(AskRegion {
         origin,
         dest,
         budget,
-        least: LeastTimes::new(least),
-        need: Needs::new(need),
+        least: Items::new(least),
+        need: Items::new(need),
         table_cells,
         broad_cells,
     })

@@ -1,14 +1,15 @@
 // The needs and cells of a region, out of its least times.
 ghost use Rattle.std.specs.Prelude.{ℕ, ◌≡◌, ◌+◌, ◌*◌, ◌≤◌, length, IfOk};
 ghost use Rattle.std.specs.List.{All};
+ghost use Rattle.sota_units.specs.Limits.{NODE_LIMIT, BUDGET_LIMIT};
 ghost use Rattle.sota_hist.specs.Time.{IsTime};
-ghost use Rattle.sota_network.specs.Network.{IsNet, NODE_LIMIT};
 ghost use Rattle.sota_network.specs.Numbers.{listed};
-ghost use Rattle.sota_network.specs.Grid.{BUDGET_LIMIT};
 ghost use Rattle.sota_network.specs.Region.{need_between, broad_at};
-ghost use Rattle.sota_bounds.specs.Cells.{need_by, pairs_by, table_by, broad_by};
+ghost use Rattle.sota_bounds.specs.Cells.{need_by_times, pairs_by_need};
+ghost use Rattle.sota_bounds.specs.Cells.{table_cells_by_lists, broad_cells_by_lists};
 
 use sota_hist::laws::times_rise;
+use sota_network::laws::lists_by_number;
 use sota_network::{Arc, Network};
 use sota_units::{NoMemory, NodeId, Tick};
 use std::alloc::Global;
@@ -16,22 +17,25 @@ use std::alloc::Global;
 /// An arc with more pairs than these within the budget is broad.
 const NARROW: usize = 32;
 
-/// The need of each node.
+/// The need of each of so many nodes.
 pub(crate) fn needs_of(
     alloc: Global,
+    nodes: u32,
     least: &[Option<u64>],
     from: &[Option<u64>],
     dest: NodeId,
     budget: u32,
 ) -> Result<Vec<u32>, NoMemory>
     requires budget { budget ≤ BUDGET_LIMIT }
-    requires nodes { length least.now ≤ NODE_LIMIT }
-    requires same { length from.now ≡ length least.now }
-    ensures value { IfOk result (λ needs. needs.items ≡ listed (need_by dest budget least.now from.now) (length least.now)) }
+    requires nodes { (nodes ≤ NODE_LIMIT) × (length least.now ≡ nodes) }
+    requires same { length from.now ≡ nodes }
+    ensures value { IfOk result (λ needs.
+        needs.items ≡ listed (need_by_times dest budget least.now from.now) (length least.now)) }
     ensures nodes { IfOk result (λ needs. length needs.items ≡ length least.now) }
     ensures within { IfOk result (λ needs. All (λ need. need ≤ BUDGET_LIMIT + 1) needs.items) }
 {
-    let mut needs = Vec::with_capacity(alloc, least.len())?;
+    lists_by_number();
+    let mut needs = Vec::with_capacity(alloc, nodes as usize)?;
     for (index, to) in least.iter().enumerate() {
         let need = if index as u32 + 1 == dest.get() {
             0
@@ -57,7 +61,7 @@ fn need_between(to: Option<u64>, from: Option<u64>, budget: u32) -> u32
 
 /// The number of pairs of a node with this time to the destination and this need.
 fn pairs_of(to: Option<u64>, need: u32) -> u64
-    ensures value { result ≡ pairs_by to need }
+    ensures value { result ≡ pairs_by_need to need }
     ensures within { result ≤ need }
 {
     match to {
@@ -71,7 +75,7 @@ pub(crate) fn table_cells_of(least: &[Option<u64>], needs: &[u32]) -> u64
     requires nodes { length least.now ≤ NODE_LIMIT }
     requires same { length needs.now ≡ length least.now }
     requires within { All (λ need. need ≤ BUDGET_LIMIT + 1) needs.now }
-    ensures { result ≡ table_by least.now needs.now (length least.now) }
+    ensures { result ≡ table_cells_by_lists least.now needs.now (length least.now) }
 {
     let mut cells = 0;
     for (index, to) in least.iter().enumerate() {
@@ -87,12 +91,11 @@ pub(crate) fn broad_cells_of(
     needs: &[u32],
     budget: u32,
 ) -> u64
-    requires valid { IsNet network.now }
     requires budget { budget ≤ BUDGET_LIMIT }
     requires nodes { length least.now ≡ network.now.nodes }
     requires same { length needs.now ≡ length least.now }
     requires within { All (λ need. need ≤ BUDGET_LIMIT + 1) needs.now }
-    ensures { result ≡ broad_by budget least.now needs.now network.now.arcs }
+    ensures { result ≡ broad_cells_by_lists budget least.now needs.now network.now.arcs }
 {
     let mut cells = 0;
     for arc in network.arcs() {
@@ -111,8 +114,11 @@ fn broad_at(arc: &Arc, pairs: u64, budget: u32) -> u64
     ensures within { result ≤ 2 * (BUDGET_LIMIT + 1) }
 {
     times_rise();
+    if pairs == 0 {
+        return 0;
+    }
     let within = arc.time.within(Tick(budget));
-    if pairs == 0 || within.len() <= NARROW {
+    if within.len() <= NARROW {
         return 0;
     }
     let span = within[within.len() - 1].0.get() - within[0].0.get() + 1;

@@ -8,9 +8,9 @@ use sota_network::Network;
 use sota_units::{NoMemory, NodeId};
 use std::alloc::Global;
 
-/// The least time from each node to the destination, in ticks, over walks whose arcs do not leave
-/// it: that of node `i` stands at index `i - 1`. None is never. Near-linear in nodes and arcs
-/// (Dijkstra 1959).
+/// The least time from each node to the destination, in ticks, over walks whose arcs are open and
+/// do not leave it: that of node `i` stands at index `i - 1`. None: unreachable. Near-linear in
+/// nodes and arcs (Dijkstra 1959).
 pub fn least_to(
     alloc: Global,
     network: &Network,
@@ -18,14 +18,15 @@ pub fn least_to(
 ) -> Result<Vec<Option<u64>>, NoMemory>
     requires { IsNode network.now dest }
     ensures nodes { IfOk result (λ times. length times.items ≡ network.now.nodes) }
-    ensures least { IfOk result (λ times. (i : ℕ) → IsNode network.now i → IsLeastTime network.now dest i dest (slice_index_or times.items (i - 1) None)) }
+    ensures least { IfOk result (λ times. (i : ℕ) → IsNode network.now i
+        → IsLeastTime network.now dest i dest (slice_index_or times.items (i - 1) None)) }
 {
     least_times(alloc, network, Direction::Against, dest, dest)
 }
 
-/// The least time from the origin to each node, in ticks, over walks whose arcs do not leave the
-/// destination: that of node `i` stands at index `i - 1`. None is never. Near-linear in nodes and
-/// arcs (Dijkstra 1959).
+/// The least time from the origin to each node, in ticks, over walks whose arcs are open and do not
+/// leave the destination: that of node `i` stands at index `i - 1`. None: unreachable. Near-linear
+/// in nodes and arcs (Dijkstra 1959).
 pub fn least_from(
     alloc: Global,
     network: &Network,
@@ -34,7 +35,8 @@ pub fn least_from(
 ) -> Result<Vec<Option<u64>>, NoMemory>
     requires { IsNode network.now origin }
     ensures nodes { IfOk result (λ times. length times.items ≡ network.now.nodes) }
-    ensures least { IfOk result (λ times. (i : ℕ) → IsNode network.now i → IsLeastTime network.now dest origin i (slice_index_or times.items (i - 1) None)) }
+    ensures least { IfOk result (λ times. (i : ℕ) → IsNode network.now i
+        → IsLeastTime network.now dest origin i (slice_index_or times.items (i - 1) None)) }
 {
     least_times(alloc, network, Direction::Along, origin, dest)
 }

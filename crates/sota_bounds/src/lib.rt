@@ -6,13 +6,11 @@ mod ask;
 mod cells;
 mod fault;
 mod least;
-mod lists;
 mod search;
 
 pub use ask::{AskRegion, region};
 pub use fault::RegionFault;
 pub use least::{least_from, least_to};
-pub use lists::{LeastTimes, Needs};
 
 #[cfg(test)]
 mod tests;

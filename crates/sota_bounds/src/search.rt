@@ -1,11 +1,15 @@
 // Dijkstra's search: nodes are settled by rising times from or to a source.
-ghost use Rattle.std.specs.Prelude.{ℕ, ◌≡◌, ◌+◌, ◌^◌, ◌<◌, ◌≤◌, ◌++◌, length, IfOk, IfSome, OnOk};
+ghost use Rattle.std.specs.Prelude.{ℕ, ◌≡◌, ◌+◌, ◌^◌, ◌<◌, ◌≤◌, ◌++◌, length};
+ghost use Rattle.std.specs.Prelude.{IfOk, IfSome, OnOk};
 ghost use Rattle.std.specs.List.{All};
 ghost use Rattle.std.specs.List.Sorted.{IsPermutation};
 ghost use Rattle.std.specs.BinaryHeap.{heap_items, IsHeap};
-ghost use Rattle.sota_network.specs.Network.{IsNet, IsNode};
-ghost use Rattle.sota_bounds.specs.Search.{end_of, arcs_at, time_at, next_visit, next_visits, by_time, IsLeastBetween, TICK_LIMIT};
+ghost use Rattle.sota_units.specs.Limits.{TICK_LIMIT};
+ghost use Rattle.sota_network.specs.Network.{IsNode};
+ghost use Rattle.sota_bounds.specs.Search.{end_of, arcs_at, time_at, next_visit, next_visits};
+ghost use Rattle.sota_bounds.specs.Search.{by_time, IsLeastBetween};
 
+use sota_network::laws::arcs_by_number;
 use sota_network::{Arc, Network};
 use sota_units::{ArcId, NoMemory, NodeId};
 use std::alloc::Global;
@@ -29,8 +33,8 @@ struct Visit {
     node: NodeId,
 }
 
-/// The least time between the source and each node, over walks whose arcs do not leave the
-/// destination: that of node `i` stands at index `i - 1`.
+/// The least time between the source and each node, over walks whose arcs are open and do not leave
+/// the destination: that of node `i` stands at index `i - 1`. None: unreachable.
 pub(crate) fn least_times(
     alloc: Global,
     network: &Network,
@@ -40,9 +44,10 @@ pub(crate) fn least_times(
 ) -> Result<Vec<Option<u64>>, NoMemory>
     requires { IsNode network.now source }
     ensures nodes { IfOk result (λ times. length times.items ≡ network.now.nodes) }
-    ensures least { IfOk result (λ times. (i : ℕ) → IsNode network.now i → IsLeastBetween network.now dest direction source i (time_at times.items i)) }
+    ensures least { IfOk result (λ times. (i : ℕ) → IsNode network.now i
+        → IsLeastBetween network.now dest direction source i (time_at times.items i)) }
 {
-    network.is_valid();
+    arcs_by_number();
     let mut times = vec![in alloc; None; network.nodes() as usize]?;
     let mut queue = BinaryHeap::new(alloc);
     queue.push(Visit {
@@ -68,15 +73,19 @@ fn queue_next(
     times: &[Option<u64>],
     queue: &mut BinaryHeap<Visit>,
 ) -> Result<(), NoMemory>
-    requires valid { IsNet network.now }
     requires node { IsNode network.now visit.now.node }
     requires time { visit.now.time.0 < 2 ^ 63 }
     requires nodes { length times.now ≡ network.now.nodes }
     requires order { IsHeap by_time (heap_items queue.old) }
     ensures order { IsHeap by_time (heap_items queue.new) }
-    ensures queued { OnOk result (IsPermutation (heap_items queue.old ++ next_visits network.now direction dest visit.now times.now) (heap_items queue.new)) }
-    ensures soon { (limit : ℕ) → visit.now.time.0 + TICK_LIMIT ≤ limit → All (λ v. v.time.0 ≤ limit) (heap_items queue.old) → All (λ v. v.time.0 ≤ limit) (heap_items queue.new) }
+    ensures queued { OnOk result (IsPermutation
+        (heap_items queue.old ++ next_visits network.now direction dest visit.now times.now)
+        (heap_items queue.new)) }
+    ensures soon { (limit : ℕ) → visit.now.time.0 + TICK_LIMIT ≤ limit
+        → All (λ v. v.time.0 ≤ limit) (heap_items queue.old)
+        → All (λ v. v.time.0 ≤ limit) (heap_items queue.new) }
 {
+    arcs_by_number();
     let arcs = network.arcs();
     for number in direction.arcs_at(network, visit.node) {
         let arc = &arcs[number.get() as usize - 1];
@@ -110,7 +119,7 @@ impl Direction {
     }
 
     /// The visit to which a settled one leads over an arc: none where the arc leaves the
-    /// destination, or its end is settled.
+    /// destination or is closed, or its end is settled.
     fn next_visit(
         self,
         arc: &Arc,
@@ -124,7 +133,7 @@ impl Direction {
         ensures soon { IfSome result (λ next. next.time.0 ≤ visit.now.time.0 + TICK_LIMIT) }
     {
         let node = self.end_of(arc);
-        if arc.tail == dest || times[node.get() as usize - 1].is_some() {
+        if arc.tail == dest || arc.time.is_closed() || times[node.get() as usize - 1].is_some() {
             return None;
         }
         let time = Reverse(visit.time.0 + u64::from(arc.time.least().get()));

@@ -3,25 +3,27 @@ use Rattle.sota_network.specs.Network.{IsNode}
 use Rattle.sota_network.specs.Walks.{IsLeastTime}
 use Rattle.sota_network.specs.Numbers.{listed}
 use Rattle.sota_bounds.specs.Search.{time_at}
-use Rattle.sota_bounds.specs.Cells.{need_by, table_by, broad_by}
+use Rattle.sota_bounds.specs.Cells.{need_by_times, table_cells_by_lists, broad_cells_by_lists}
 use Rattle.sota_bounds.proofs.Counted.{IsAsked, needs-are, table-is, broad-is}
 use Rattle.sota_bounds.proofs.ask.whole_region.Goals as goal
 
 -- the least times, and the law of the region at them
 asked : (c : goal.After-drop-from-2) → IsAsked c.args.network.now c.args.origin c.args.dest c.args.budget c.in_ok-least.least.items c.in_ok-from.from.items
 asked c = record {
-  valid = c.is_valid.ensures;
+  valid = c.nodes.ensures.valid;
   nodes = c.in_ok-least.ensures.nodes;
   onward = c.in_ok-least.ensures.least;
   back = c.in_ok-from.ensures.least;
-  pairs = λ i to since apart onward back. c.region_by_least_times.ensures.pairs c.args.network.now c.args.origin c.args.dest c.args.budget i to since c.is_valid.ensures apart onward back;
-  needs = λ i to since apart onward back. c.region_by_least_times.ensures.needs c.args.network.now c.args.origin c.args.dest c.args.budget i to since c.is_valid.ensures apart onward back;
+  pairs = λ i to since apart onward back. c.region_by_least_times.ensures.pairs c.args.network.now c.args.origin c.args.dest c.args.budget i to since c.nodes.ensures.valid apart onward back;
+  needs = λ i to since apart onward back. c.region_by_least_times.ensures.needs c.args.network.now c.args.origin c.args.dest c.args.budget i to since c.nodes.ensures.valid apart onward back;
+  entry = c.lists_by_number.ensures.entry;
+  agree = c.lists_by_number.ensures.agree;
   dest_pairs = c.region_by_least_times.ensures.dest_pairs c.args.network.now c.args.origin c.args.dest c.args.budget;
   dest_need = c.region_by_least_times.ensures.dest_need c.args.network.now c.args.origin c.args.dest c.args.budget;
 }
 
 -- the needs that are kept
-kept : (c : goal.After-drop-from-2) → c.in_ok-need.need.items ≡ listed (need_by c.args.dest c.args.budget c.in_ok-least.least.items c.in_ok-from.from.items) (length c.in_ok-least.least.items)
+kept : (c : goal.After-drop-from-2) → c.in_ok-need.need.items ≡ listed (need_by_times c.args.dest c.args.budget c.in_ok-least.least.items c.in_ok-from.from.items) (length c.in_ok-least.least.items)
 kept c = rw (c.deref.ensures.value, c.deref-2.ensures.value) at c.in_ok-need.ensures.value
 
 pub returns : goal.returns
@@ -31,11 +33,11 @@ returns c = record {
   least = subst (λ (times : List (Option ℕ)). (i : ℕ) → IsNode c.args.network.now i → IsLeastTime c.args.network.now c.args.dest i c.args.dest (time_at times i)) (sym c.new.ensures) c.in_ok-least.ensures.least;
   need = c.new-2.ensures ∙ kept c ∙ needs-are c.args.network.now c.args.origin c.args.dest c.args.budget c.in_ok-least.least.items c.in_ok-from.from.items (asked c);
   table_cells = c.table_cells_of-table_cells.ensures
-      ∙ ap (λ (least : List (Option ℕ)). table_by least c.deref-4.result.now (length least)) c.deref-3.ensures.value
-      ∙ ap (λ (needs : List ℕ). table_by c.in_ok-least.least.items needs (length c.in_ok-least.least.items)) c.deref-4.ensures.value
+      ∙ ap (λ (least : List (Option ℕ)). table_cells_by_lists least c.deref-4.result.now (length least)) c.deref-3.ensures.value
+      ∙ ap (λ (needs : List ℕ). table_cells_by_lists c.in_ok-least.least.items needs (length c.in_ok-least.least.items)) c.deref-4.ensures.value
       ∙ table-is c.args.network.now c.args.origin c.args.dest c.args.budget c.in_ok-least.least.items c.in_ok-from.from.items (asked c) c.in_ok-need.need.items (kept c);
   broad_cells = c.broad_cells_of-broad_cells.ensures
-      ∙ ap (λ (least : List (Option ℕ)). broad_by c.args.budget least c.deref-6.result.now c.args.network.now.arcs) c.deref-5.ensures.value
-      ∙ ap (λ (needs : List ℕ). broad_by c.args.budget c.in_ok-least.least.items needs c.args.network.now.arcs) c.deref-6.ensures.value
+      ∙ ap (λ (least : List (Option ℕ)). broad_cells_by_lists c.args.budget least c.deref-6.result.now c.args.network.now.arcs) c.deref-5.ensures.value
+      ∙ ap (λ (needs : List ℕ). broad_cells_by_lists c.args.budget c.in_ok-least.least.items needs c.args.network.now.arcs) c.deref-6.ensures.value
       ∙ broad-is c.args.network.now c.args.origin c.args.dest c.args.budget c.in_ok-least.least.items c.in_ok-from.from.items (asked c) c.in_ok-need.need.items (kept c);
 }

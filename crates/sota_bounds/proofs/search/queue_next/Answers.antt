@@ -7,7 +7,6 @@ use Rattle.sota_network.specs.Network.{IsNode, arc_at}
 use Rattle.sota_network.specs.declared.network.Arc.{Arc}
 use Rattle.sota_bounds.specs.Search.{end_of, next_visit}
 use Rattle.sota_bounds.specs.declared.search.Visit.{Visit}
-use Rattle.sota_network.proofs.Recursion.{arc-valid}
 use Rattle.sota_bounds.proofs.Numbered.{out-read, arc-place, end-valid}
 use Rattle.sota_bounds.proofs.Queued.{queued-more, queued-same}
 use Rattle.sota_bounds.proofs.search.queue_next.Goals.{in-Some+in_ok-push, in_default}
@@ -32,7 +31,7 @@ next_visit-requires-clause-end c =
     (arc-place c.args.network.now c.args.direction c.args.visit.now.node c.arcs-arcs.result.now c.get.result c.number-item.result out c.arcs-arcs.ensures.value c.get.ensures) in
     let node : IsNode c.args.network.now (end_of c.args.direction c.index-arcs-get.result) =
     subst (λ (arc : Arc). IsNode c.args.network.now (end_of c.args.direction arc)) (sym read)
-    (end-valid c.args.network.now c.args.direction out.arc (arc-valid c.args.network.now c.requires.valid c.number-item.result out.arc out.number)) in
+    (end-valid c.args.network.now c.args.direction out.arc (c.arcs_by_number.ensures c.args.network.now c.number-item.result out.arc c.arcs-arcs.ensures.valid out.number)) in
     (node.0, omega (arith, node.1, c.requires.nodes))
 
 -- what is queued for the number that is looked at

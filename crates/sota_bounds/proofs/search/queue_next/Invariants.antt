@@ -4,7 +4,8 @@ use Rattle.std.specs.List.Sorted.{IsPermutation}
 use Rattle.std.specs.Option.{option_and_then}
 use Rattle.std.specs.BinaryHeap.{heap_items, IsHeap}
 use Rattle.sota_network.specs.Network.{arc_at}
-use Rattle.sota_bounds.specs.Search.{next_visit, by_time, TICK_LIMIT}
+use Rattle.sota_units.specs.Limits.{TICK_LIMIT}
+use Rattle.sota_bounds.specs.Search.{next_visit, by_time}
 use Rattle.sota_bounds.specs.declared.search.Visit.{Visit}
 use Rattle.sota_bounds.proofs.search.queue_next.Given as goal
 

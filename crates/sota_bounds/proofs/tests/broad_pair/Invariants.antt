@@ -12,5 +12,5 @@ invariant-loop l = record {
   count : length l.arcs.items ≤ l.counter;
   tails : All (λ (arc : Arc). (1 ≤ arc.tail) × (arc.tail ≤ 2)) l.arcs.items;
   heads : All (λ (arc : Arc). (1 ≤ arc.head) × (arc.head ≤ 2)) l.arcs.items;
-  totals : All (λ (arc : Arc). total arc.time ≡ l.scale) l.arcs.items;
+  totals : All (λ (arc : Arc). total arc.time ≤ l.scale) l.arcs.items;
 }

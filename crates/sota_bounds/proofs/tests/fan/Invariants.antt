@@ -9,5 +9,5 @@ invariant-loop-node l = record {
   count : length l.arcs.items ≤ 2 * l.node;
   tails : All (λ (arc : Arc). (1 ≤ arc.tail) × (arc.tail ≤ l.nodes)) l.arcs.items;
   heads : All (λ (arc : Arc). (1 ≤ arc.head) × (arc.head ≤ l.nodes)) l.arcs.items;
-  totals : All (λ (arc : Arc). total arc.time ≡ 1) l.arcs.items;
+  totals : All (λ (arc : Arc). total arc.time ≤ 1) l.arcs.items;
 }
