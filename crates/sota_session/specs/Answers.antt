@@ -1,22 +1,33 @@
--- What the answers of a session say.
-use Rattle.std.specs.Prelude.{◌≡◌, ℕ, List, Some, None, Result, Ok, Err, IsSome}
-use Rattle.sota_network.specs.Network.{Net, arc_at, replaced}
-use Rattle.sota_session.specs.Asks.{ask_fault, answer_of, IsInRange}
-use Rattle.sota_session.specs.declared.ask.Ask.{Ask}
-use Rattle.sota_session.specs.declared.ask.Answer.{Answer}
+-- Kinds of refusals.
+use Rattle.std.specs.Prelude.{Bool, true, false, Option, None, Some, Result, Ok, Err}
+use Rattle.std.specs.Prelude.{if◌then◌else◌}
 use Rattle.sota_session.specs.declared.ask.AskFault.{AskFault}
 use Rattle.sota_session.specs.declared.ask.AskFault.TheVariants as asks
-use Rattle.sota_session.specs.declared.session.EditFault.{EditFault}
-use Rattle.sota_session.specs.declared.session.EditFault.TheVariants as edits
 
--- an ask is answered exactly where it has no fault, for this network; memory is wanted only where the ask is in range
-abbrev pub AskAnswers : Result Answer AskFault → Net → Ask → Type 0
-AskAnswers (Ok answer) net ask = (ask_fault net ask ≡ None) × (answer ≡ answer_of net ask)
-AskAnswers (Err asks.NoMemory) net ask = IsInRange net ask
-AskAnswers (Err fault) net ask = ask_fault net ask ≡ Some fault
+-- a number of the ask is out of range
+abbrev pub is_of_range : AskFault → Bool
+is_of_range asks.NoOrigin = true
+is_of_range asks.NoDest = true
+is_of_range asks.Budget = true
+is_of_range _ = false
 
--- an edit replaces the time of the arc exactly where there is one; after a refusal the network is as it was
-abbrev pub EditAnswers : Result (Unit {0}) EditFault → Net → Net → ℕ → List (ℕ × ℕ) → Type 0
-EditAnswers (Ok _) old new arc time = IsSome (arc_at old arc) × (new ≡ replaced old arc time)
-EditAnswers (Err edits.NoArc) old new arc time = (arc_at old arc ≡ None) × (new ≡ old)
-EditAnswers (Err edits.NoMemory) old new arc time = new ≡ old
+-- the region of the ask is too large
+abbrev pub is_of_size : AskFault → Bool
+is_of_size (asks.TableCells count) = true
+is_of_size (asks.BroadCells count) = true
+is_of_size _ = false
+
+-- memory was wanted
+abbrev pub is_shortage : AskFault → Bool
+is_shortage asks.NoMemory = true
+is_shortage _ = false
+
+-- whether a call was refused for a fault of this kind
+abbrev pub is_refused : {A E : Type 0} → (E → Bool) → Result A E → Bool
+is_refused kind (Ok value) = false
+is_refused kind (Err fault) = kind fault
+
+-- the fault of this kind for which it was refused, none where it was not
+abbrev pub refusal_of : {A E : Type 0} → (E → Bool) → Result A E → Option E
+refusal_of kind (Ok value) = None
+refusal_of kind (Err fault) = if kind fault then Some fault else None

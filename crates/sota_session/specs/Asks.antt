@@ -1,17 +1,19 @@
 -- Asks: why one is refused, and what answers the others.
 use Rattle.std.specs.Prelude.{ℕ, ◌≤◌, ◌&&◌, nat_le, Bool, Option, Some, None, if◌then◌else◌}
 use Rattle.std.specs.Option.{option_map, option_or}
+use Rattle.sota_units.specs.Limits.{BUDGET_LIMIT}
 use Rattle.sota_network.specs.Network.{Net, IsNode}
-use Rattle.sota_network.specs.Grid.{lo, hi, choice, BUDGET_LIMIT}
+use Rattle.sota_network.specs.Grid.{lo, hi, choice}
 use Rattle.sota_bounds.specs.Faults.{region_fault}
 use Rattle.sota_bounds.specs.declared.fault.RegionFault.{RegionFault}
 use Rattle.sota_bounds.specs.declared.fault.RegionFault.TheVariants as regions
 use Rattle.sota_session.specs.declared.ask.Ask.{Ask}
 use Rattle.sota_session.specs.declared.ask.Answer.{Answer}
 use Rattle.sota_session.specs.declared.ask.AskFault.{AskFault}
-use Rattle.sota_session.specs.declared.ask.AskFault.TheVariants.{NoOrigin, NoDest, Budget, TableCells, BroadCells, NoMemory}
+use Rattle.sota_session.specs.declared.ask.AskFault.TheVariants.{NoOrigin, NoDest, Budget}
+use Rattle.sota_session.specs.declared.ask.AskFault.TheVariants.{TableCells, BroadCells, NoMemory}
 
--- the number of a node
+-- whether a node has this number
 abbrev pub is_node : Net → ℕ → Bool
 is_node net node = nat_le 1 node && nat_le node net.nodes
 
@@ -19,7 +21,9 @@ is_node net node = nat_le 1 node && nat_le node net.nodes
 abbrev pub range_fault : Net → Ask → Option AskFault
 range_fault net ask =
     if is_node net ask.origin then
-    (if is_node net ask.dest then (if nat_le ask.budget BUDGET_LIMIT then None else Some Budget) else Some NoDest)
+    (if is_node net ask.dest then
+    (if nat_le ask.budget BUDGET_LIMIT then None else Some Budget)
+    else Some NoDest)
     else Some NoOrigin
 
 -- a region that is too large is one that cannot be planned for

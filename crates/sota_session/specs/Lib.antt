@@ -1,2 +1,4 @@
+pub mod State
 pub mod Asks
 pub mod Answers
+pub mod Words

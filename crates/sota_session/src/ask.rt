@@ -1,12 +1,12 @@
-// An ask, and its answer by the plain planner.
+// Asks, their answers, and why they are refused.
 ghost use Rattle.std.specs.Prelude.{◌≡◌};
+ghost use Rattle.sota_network.specs.Network.{IsNet};
 ghost use Rattle.sota_session.specs.Asks.{is_node, range_fault};
-ghost use Rattle.sota_session.specs.Answers.{AskAnswers};
+ghost use Rattle.sota_session.specs.Words.{ask_word, ask_count};
 
-use sota_bounds::{RegionFault, region};
-use sota_network::{Network, plain_grid};
-use sota_units::{ArcId, Grain, NoMemory, NodeId};
-use std::alloc::Global;
+use sota_bounds::RegionFault;
+use sota_network::Network;
+use sota_units::{ArcId, BUDGET_LIMIT, Grain, NoMemory, NodeId};
 
 /// How likely can one who stands at the origin be at the destination within the budget, in ticks?
 #[derive(Clone, Copy, Debug, PartialEq, Eq)]
@@ -37,8 +37,34 @@ pub enum AskFault {
     TableCells(u64),
     /// So many broad cells are in its region, more than 40,000,000.
     BroadCells(u64),
-    /// Memory was wanted, and there was none. It says nothing of the ask.
+    /// Memory was wanted, and there was none. It is no fault of the ask.
     NoMemory,
+}
+
+impl AskFault {
+    /// Its name, as replies print it.
+    pub fn word(self) -> &'static [u8]
+        ensures { result.now ≡ ask_word self }
+    {
+        match self {
+            AskFault::NoOrigin => b"NoOrigin",
+            AskFault::NoDest => b"NoDest",
+            AskFault::Budget => b"Budget",
+            AskFault::TableCells(_) => b"TableCells",
+            AskFault::BroadCells(_) => b"BroadCells",
+            AskFault::NoMemory => b"NoMemory",
+        }
+    }
+
+    /// The count that exceeds a limit of size. None exactly where the fault has none.
+    pub fn count(self) -> Option<u64>
+        ensures { result ≡ ask_count self }
+    {
+        match self {
+            AskFault::TableCells(count) | AskFault::BroadCells(count) => Some(count),
+            _ => None,
+        }
+    }
 }
 
 impl From<NoMemory> for AskFault {
@@ -65,18 +91,18 @@ impl From<RegionFault> for AskFault {
     }
 }
 
-const BUDGET_LIMIT: u32 = 65_535;
-
 /// Whether a node of the network has this number.
 fn has_node(network: &Network, node: NodeId) -> bool
-    ensures { result ≡ is_node network.now node }
+    ensures value { result ≡ is_node network.now node }
+    ensures valid { IsNet network.now }
 {
-    node.get() >= 1 && node.get() <= network.nodes()
+    (1..=network.nodes()).contains(&node.get())
 }
 
 /// The first number of the ask that is out of range.
-fn find_range_fault(network: &Network, ask: &Ask) -> Option<AskFault>
-    ensures { result ≡ range_fault network.now ask.now }
+pub(crate) fn find_range_fault(network: &Network, ask: &Ask) -> Option<AskFault>
+    ensures value { result ≡ range_fault network.now ask.now }
+    ensures valid { IsNet network.now }
 {
     if !has_node(network, ask.origin) {
         Some(AskFault::NoOrigin)
@@ -87,20 +113,4 @@ fn find_range_fault(network: &Network, ask: &Ask) -> Option<AskFault>
     } else {
         None
     }
-}
-
-/// Answers an ask by the grid of the whole network, where its region is not too large.
-pub(crate) fn answer_ask(alloc: Global, network: &Network, ask: &Ask) -> Result<Answer, AskFault>
-    ensures { AskAnswers result network.now ask.now }
-{
-    if let Some(fault) = find_range_fault(network, ask) {
-        return Err(fault);
-    }
-    region(alloc, network, ask.origin, ask.dest, ask.budget)?;
-    let grid = plain_grid(alloc, network, ask.dest, ask.budget)?;
-    Ok(Answer {
-        lower: grid.lower(ask.origin, ask.budget),
-        upper: grid.upper(ask.origin, ask.budget),
-        next: grid.choice(ask.origin, ask.budget),
-    })
 }

@@ -2,9 +2,11 @@
 #![tactic(auto)]
 
 mod ask;
+mod edit;
 mod session;
 #[cfg(test)]
 mod tests;
 
 pub use ask::{Answer, Ask, AskFault};
-pub use session::{EditFault, Session};
+pub use edit::EditFault;
+pub use session::Session;

@@ -1,25 +1,23 @@
 // A network that is asked and edited.
-ghost use Rattle.std.specs.Prelude.{◌≡◌, IfOk};
+ghost use Rattle.std.specs.Prelude.{◌≡◌, ◌≤◌, ◌↔◌, None, Err, IfOk, OnErr, OnOk};
+ghost use Rattle.sota_units.specs.Memory.{Unless};
 ghost use Rattle.sota_hist.specs.Time.{total};
-ghost use Rattle.sota_network.specs.Network.{IsNet};
-ghost use Rattle.sota_session.specs.Answers.{AskAnswers, EditAnswers};
+ghost use Rattle.sota_network.specs.Network.{IsNet, arc_at, replaced};
+ghost use Rattle.sota_session.specs.Asks.{range_fault, size_fault, answer_of, IsInRange};
+ghost use Rattle.sota_session.specs.Answers.{is_of_range, is_of_size, is_shortage};
+ghost use Rattle.sota_session.specs.Answers.{is_refused, refusal_of};
+ghost use Rattle.sota_session.specs.declared.ask.AskFault.TheVariants as asks;
+ghost use Rattle.sota_session.specs.declared.edit.EditFault.TheVariants as edits;
 
-use crate::ask::{Answer, Ask, AskFault, answer_ask};
+use crate::ask::{Answer, Ask, AskFault, find_range_fault};
+use crate::edit::EditFault;
+use sota_bounds::region;
 use sota_hist::Histogram;
-use sota_network::Network;
+use sota_network::{Network, plain_grid};
 use sota_units::{ArcId, NoMemory, Steps};
 use std::alloc::Global;
 use std::marker::Model;
 use std::sync::ledger::Ledger;
-
-/// Why an edit is refused.
-#[derive(Clone, Copy, Debug, PartialEq, Eq)]
-pub enum EditFault {
-    /// No arc has the number.
-    NoArc,
-    /// Memory was wanted, and there was none. It never comes yet.
-    NoMemory,
-}
 
 /// A network that is asked and edited, seen as the network that it is now. Nothing of what was
 /// asked is kept: each ask is planned afresh.
@@ -30,38 +28,33 @@ pub struct Session {
 }
 
 impl Model for Session {
-    ghost use Rattle.sota_network.specs.Network.{Net};
+    ghost use Rattle.sota_session.specs.State.{SessionState};
 
-    ghost Value = { Net };
+    ghost Value = { SessionState };
 
-    ghost view = { λ session. session.network };
+    ghost view = { λ session. record { network = session.network } };
 }
 
 impl Session {
     /// A session of this network. `alloc` is where its asks take memory; it takes none itself yet.
     pub fn new(alloc: Global, network: Network) -> Result<Session, NoMemory>
-        ensures { IfOk result (λ session. session ≡ network) }
+        ensures { IfOk result (λ session. session.network ≡ network) }
     {
         Ok(Session { network, alloc })
     }
 
     /// The network as it is now.
     pub fn network(&self) -> &Network
-        ensures { result.now ≡ self.now }
+        ensures { result.now ≡ self.now.network }
     {
         &self.network
     }
 
-    /// What is true of the network of every session.
-    pub fn is_valid(&self)
-        ensures { IsNet self.now }
-    {
-        self.network.is_valid();
-    }
-
-    /// Answers an ask for the network as it is now. The refusals but NoMemory come exactly where
-    /// `AskFault` says, the first of them that stands, and NoMemory only where none of the first
-    /// three does. The network stays as it is.
+    /// Answers an ask for the network as it is now, which stays as it is.
+    ///
+    /// NoOrigin, NoDest and Budget come exactly where they say, the first of them that stands. For
+    /// an ask in range TableCells and BroadCells come exactly where they say, in this order, but
+    /// for want of memory, which comes for no other.
     ///
     /// `products` and `pushes` are to count multiplications and table entries; nothing is promised
     /// of them yet.
@@ -71,19 +64,38 @@ impl Session {
         products: &mut Steps<M>,
         pushes: &mut Steps<P>,
     ) -> Result<Answer, AskFault>
-        ensures answer { AskAnswers result self.old ask }
+        ensures range { refusal_of is_of_range result ≡ range_fault self.old.network ask }
+        ensures size { range_fault self.old.network ask ≡ None
+            → Unless (is_refused is_shortage result)
+            (refusal_of is_of_size result ≡ size_fault self.old.network ask) }
+        ensures memory { result ≡ Err asks.NoMemory → IsInRange self.old.network ask }
+        ensures answer { IfOk result (λ answer. answer ≡ answer_of self.old.network ask) }
         ensures kept { self.new ≡ self.old }
+        ensures valid { IsNet self.new.network }
     {
         let _ = products;
         let _ = pushes;
-        answer_ask(self.alloc, &self.network, &ask)
+        if let Some(fault) = find_range_fault(&self.network, &ask) {
+            return Err(fault);
+        }
+        region(self.alloc, &self.network, ask.origin, ask.dest, ask.budget)?;
+        let grid = plain_grid(self.alloc, &self.network, ask.dest, ask.budget)?;
+        Ok(Answer {
+            lower: grid.lower(ask.origin, ask.budget),
+            upper: grid.upper(ask.origin, ask.budget),
+            next: grid.choice(ask.origin, ask.budget),
+        })
     }
 
-    /// Gives an arc another time, by which the asks that follow are answered. NoArc exactly where
-    /// the number is not from 1 to the number of arcs. After a refusal the network is unchanged.
+    /// Gives an arc another time, by which the asks that follow are answered. A closed time closes
+    /// the arc. NoArc exactly where the number is not from 1 to the number of arcs. After a refusal
+    /// all is unchanged.
     pub fn edit(&mut self, arc: ArcId, time: Histogram) -> Result<(), EditFault>
-        requires { total time ≡ self.old.scale }
-        ensures { EditAnswers result self.old self.new arc time }
+        requires { total time ≤ self.old.network.scale }
+        ensures no_arc { (result ≡ Err edits.NoArc) ↔ (arc_at self.old.network arc ≡ None) }
+        ensures replaced { OnOk result (self.new.network ≡ replaced self.old.network arc time) }
+        ensures unchanged { OnErr result (self.new ≡ self.old) }
+        ensures valid { IsNet self.new.network }
     {
         match self.network.replace(arc, time) {
             Ok(_) => Ok(()),

@@ -1,6 +1,5 @@
 // Each call once with ample memory, on a network of one road.
 ghost use Rattle.std.specs.Prelude.{◌≡◌, ◌≤◌, ◌<◌};
-ghost use Rattle.sota_network.specs.Network.{IsNet};
 
 use crate::{Answer, Ask, AskFault, EditFault, Session};
 use sota_hist::Histogram;
@@ -22,21 +21,16 @@ fn one_road(alloc: Global) -> Result<Network, NoMemory> {
     Network::build(alloc, 2, Scale::ONE, arcs)
 }
 
-/// Callers see that the network of a session is one.
-fn see_network(session: &Session)
-    ensures { IsNet session.now }
-{
-    session.network().is_valid();
-}
-
 fn ask_counted<M: Ledger, P: Ledger>(
     session: &mut Session,
     ask: Ask,
     products: Blank,
     pushes: Blank,
 ) -> Result<Answer, AskFault>
-    requires products { (products.name ≡ M.name) × (products.parts ≡ M.parts) × (0 < products.parts) }
-    requires pushes { (pushes.name ≡ P.name) × (pushes.parts ≡ P.parts) × (0 < pushes.parts) }
+    requires products { (products.name ≡ M.name) × (products.parts ≡ M.parts)
+        × (0 < products.parts) }
+    requires pushes { (pushes.name ≡ P.name) × (pushes.parts ≡ P.parts)
+        × (0 < pushes.parts) }
 {
     let mut products = Steps::<M>::new(products);
     let mut pushes = Steps::<P>::new(pushes);
@@ -64,11 +58,14 @@ fn edit(alloc: Global, session: &mut Session, arc: u32, tick: u32) -> Result<(),
     }
 }
 
+/// Closes an arc.
+fn close(alloc: Global, session: &mut Session, arc: u32) -> Result<(), EditFault> {
+    session.edit(ArcId(arc), Histogram::closed(alloc))
+}
+
 #[test]
 fn asks_and_edits(rt: HostRuntime) -> Result<(), Fail> {
     let mut session = Session::new(rt.alloc(), one_road(rt.alloc())?)?;
-    session.is_valid();
-    see_network(&session);
     let late = Answer {
         lower: Grain::ZERO,
         upper: Grain::ZERO,
@@ -82,9 +79,14 @@ fn asks_and_edits(rt: HostRuntime) -> Result<(), Fail> {
     assert_eq!(rt; ask(&mut session, 1, 2, 1), Ok(late));
     assert_eq!(rt; ask(&mut session, 1, 2, 2), Ok(in_time));
     assert_eq!(rt; edit(rt.alloc(), &mut session, 2, 1), Err(EditFault::NoArc));
+    assert_eq!(rt; close(rt.alloc(), &mut session, 2), Err(EditFault::NoArc));
     assert_eq!(rt; ask(&mut session, 1, 2, 1), Ok(late));
     assert_eq!(rt; edit(rt.alloc(), &mut session, 1, 1), Ok(()));
     assert_eq!(rt; ask(&mut session, 1, 2, 1), Ok(in_time));
+    assert_eq!(rt; close(rt.alloc(), &mut session, 1), Ok(()));
+    assert_eq!(rt; ask(&mut session, 1, 2, 9), Ok(late));
+    assert_eq!(rt; edit(rt.alloc(), &mut session, 1, 9), Ok(()));
+    assert_eq!(rt; ask(&mut session, 1, 2, 9), Ok(in_time));
     Ok(())
 }
 
@@ -100,5 +102,23 @@ fn refused_asks(rt: HostRuntime) -> Result<(), Fail> {
     for (origin, dest, budget, fault) in refused {
         assert_eq!(rt; ask(&mut session, origin, dest, budget), Err(fault));
     }
+    Ok(())
+}
+
+#[test]
+fn words_and_counts(rt: HostRuntime) -> Result<(), Fail> {
+    let faults = [
+        (AskFault::NoDest, b"NoDest".as_slice(), None),
+        (
+            AskFault::TableCells(60_000_001),
+            b"TableCells".as_slice(),
+            Some(60_000_001),
+        ),
+    ];
+    for (fault, word, count) in faults {
+        assert!(rt; fault.word() == word);
+        assert_eq!(rt; fault.count(), count);
+    }
+    assert!(rt; EditFault::NoArc.word() == b"NoArc".as_slice());
     Ok(())
 }
