@@ -1,21 +1,20 @@
--- The entries of each arc, taken from the front of entries in the order of their arcs.
-use Rattle.std.proofs.Common.{◌≡◌, ℕ, suc, ◌+◌, ◌<◌, ◌≤◌, ◌==◌, ◌&&◌, Bool, true, false, cond, List, [], ◌∷◌, ◌++◌, take, drop, length, map, get_or, Option, Some, None, Result, Ok, Err, refl, sym, ◌∙◌, ap, subst, arith, append_assoc}
-use Rattle.std.specs.List.{All, filter, count_by, prefix_len, enumerate_from}
+-- The entries of each arc, taken from the front of entries by rising places.
+use Rattle.std.proofs.Common.{◌≡◌, ℕ, suc, ◌+◌, ◌<◌, ◌≤◌, ◌==◌, Bool, true, false, cond, List, [], ◌∷◌, ◌++◌, take, drop, length, map, get_or, None, Some, Result, Ok, Err, refl, sym, ◌∙◌, ap, subst, arith, append_assoc}
+use Rattle.std.specs.List.{All, filter, prefix_len, enumerate_from}
 use Rattle.std.specs.List.Sorted.{IsNonDecreasingBy}
 use Rattle.std.proofs.lemmas.Bool.{eq-eqb, ne_eqb, eqb-true, eqb-false}
-use Rattle.std.proofs.lemmas.List.{drop_more}
+use Rattle.std.proofs.lemmas.List.{drop_more, length-map}
 use Rattle.std.proofs.lemmas.List.Elements.{All-head, All-tail, All-nil, All-cons, All-drop}
-use Rattle.std.proofs.lemmas.List.Sums.{sum_by-cons, length-filter, count_by-le-length}
+use Rattle.std.proofs.lemmas.List.Sums.{length-filter, count_by-le-length}
 use Rattle.std.proofs.lemmas.List.Sorted.{IsNonDecreasingBy-drop}
+use Rattle.sota_hist.specs.Time.{IsTime}
 use Rattle.sota_network.specs.declared.network.Arc.{Arc}
 use Rattle.sota_dimacs.specs.declared.graph.RawArc.{RawArc}
 use Rattle.sota_histcsv.specs.declared.entry.Entry.{Entry}
 use Rattle.sota_histcsv.specs.declared.fault.HistFileFault.{HistFileFault}
-use Rattle.sota_histcsv.specs.declared.fault.HistFileFault.TheVariants as fault
-use Rattle.sota_histcsv.specs.Histograms.{Told, or_fault, pairs_of, pairs_at, time_by, time_fault, arc_of, arc_fault, least_fault, timed}
-use Rattle.sota_histcsv.specs.Kept.{IsKept, is_at, AreKept, IsByArc}
-use Rattle.sota_histcsv.specs.Answers.{MeansBy, Adds}
-use Rattle.sota_histcsv.proofs.Keeping.{count-cons}
+use Rattle.sota_histcsv.specs.Histograms.{Contents, fault_first, pairs_of, time_by, time_fault, arc_of, arc_fault, least_fault, timed}
+use Rattle.sota_histcsv.specs.Kept.{IsKept, PlacesRise}
+use Rattle.sota_histcsv.proofs.Places.{arcs_rise, arc_is_time}
 
 abbrev pub of_arc : ℕ → Entry → Bool
 of_arc arc entry = entry.arc == arc
@@ -75,109 +74,101 @@ parts arc (entry ∷ entries) rises from =
 
 pub record IsRest (entries rest : List Entry) (number : ℕ) : Type 0 where
   pub rises : Rises rest
-  pub each : All IsKept rest
   pub from : AreFrom number rest
   pub same : (arc : ℕ) → number ≤ arc → filter (of_arc arc) rest ≡ filter (of_arc arc) entries
 
-pub first_rest : (entries sorted : List Entry) → AreKept entries → IsByArc entries sorted → IsRest entries sorted 1
-first_rest entries sorted kept by = record {
-  rises = by.rises;
-  each = by.each kept.each;
-  from = λ k d h. (by.each kept.each k d h).arc;
-  same = λ arc above. by.same arc;
+pub first_rest : (entries : List Entry) → All IsKept entries → PlacesRise entries
+    → IsRest entries entries 1
+first_rest entries kept rise = record {
+  rises = arcs_rise entries rise;
+  from = λ k d h. (kept k d h).arc;
+  same = λ arc above. refl;
 }
 
-pub next_rest : (entries rest others : List Entry) (number n : ℕ) → IsRest entries rest number → n ≡ prefix_len (of_arc number) rest → others ≡ drop n rest → IsRest entries others (number + 1)
+pub next_rest : (entries rest others : List Entry) (number n : ℕ) → IsRest entries rest number
+    → n ≡ prefix_len (of_arc number) rest → others ≡ drop n rest → IsRest entries others (number + 1)
 next_rest entries rest others number n is at e =
     let split = parts number rest is.rises is.from in
     let rest_is : others ≡ drop (prefix_len (of_arc number) rest) rest = e ∙ ap (λ n. drop n rest) at in
     subst (λ others. IsRest entries others (number + 1)) (sym rest_is)
     (record {
       rises = IsNonDecreasingBy-drop (λ (entry : Entry). entry.arc) _ rest is.rises;
-      each = All-drop IsKept _ rest is.each;
       from = split.from;
       same = λ arc above. split.same arc above ∙ is.same arc (omega arith);
     })
 
-pub mine_is : (entries rest mine : List Entry) (number n : ℕ) → IsRest entries rest number → n ≡ prefix_len (of_arc number) rest → mine ≡ take n rest → mine ≡ filter (of_arc number) entries
+pub mine_is : (entries rest mine : List Entry) (number n : ℕ) → IsRest entries rest number
+    → n ≡ prefix_len (of_arc number) rest → mine ≡ take n rest → mine ≡ filter (of_arc number) entries
 mine_is entries rest mine number n is at e =
     e ∙ ap (λ n. take n rest) at ∙ (parts number rest is.rises is.from).mine ∙ is.same number (omega arith)
 
--- ---- a tick of an arc stands once
+-- ---- the pairs of one arc
 
-eq_swap : (x y : ℕ) → (x == y) ≡ (y == x)
-eq_swap x y = grind arith
+pub mine_rises : (entries mine : List Entry) (number : ℕ) (pairs : List (ℕ × ℕ)) → All IsKept entries
+    → PlacesRise entries → mine ≡ filter (of_arc number) entries → pairs ≡ pairs_of mine → IsTime pairs
+mine_rises entries mine number pairs kept rise is at =
+    subst IsTime (sym (at ∙ ap pairs_of is)) (arc_is_time number entries rise kept)
 
-count_one : (here at here' at' : Bool) (more : ℕ) → here ≡ here' → at ≡ at' → cond here (cond at 1 0 + more) more ≡ cond (here' && at') 1 0 + more
-count_one true at here' at' more e f = rw (← e, ← f) refl
-count_one false at here' at' more e f = rw (← e) (omega arith)
-
-count_kept : (here : Bool) (tick : ℕ) (entry : Entry) (entries : List Entry) → count_by (λ (pair : ℕ × ℕ). pair.0 == tick) (pairs_of (cond here (entry ∷ entries) entries))
-    ≡ cond here (cond (entry.tick == tick) 1 0 + count_by (λ (pair : ℕ × ℕ). pair.0 == tick) (pairs_of entries)) (count_by (λ (pair : ℕ × ℕ). pair.0 == tick) (pairs_of entries))
-count_kept true tick entry entries = sum_by-cons (λ (pair : ℕ × ℕ). cond (pair.0 == tick) 1 0) (entry.tick, entry.mass) (pairs_of entries)
-count_kept false tick entry entries = refl
-
-count_pairs : (arc tick : ℕ) (entries : List Entry) → count_by (λ (pair : ℕ × ℕ). pair.0 == tick) (pairs_at entries arc) ≡ count_by (is_at arc tick) entries
-count_pairs arc tick [] = refl
-count_pairs arc tick (entry ∷ entries) =
-    count_kept (entry.arc == arc) tick entry (filter (of_arc arc) entries)
-    ∙ count_one (entry.arc == arc) (entry.tick == tick) (arc == entry.arc) (tick == entry.tick) _ (eq_swap entry.arc arc) (eq_swap entry.tick tick)
-    ∙ ap (λ more. cond (is_at arc tick entry) 1 0 + more) (count_pairs arc tick entries)
-    ∙ sym (count-cons arc tick entry entries)
-
-pub mine_once : (entries mine : List Entry) (number : ℕ) → AreKept entries → mine ≡ filter (of_arc number) entries → (tick : ℕ) → count_by (λ (pair : ℕ × ℕ). pair.0 == tick) (pairs_of mine) ≤ 1
-mine_once entries mine number kept is tick = rw (is, count_pairs number tick entries) (kept.once number tick)
-
-pub mine_few : (entries mine : List Entry) (number : ℕ) → mine ≡ filter (of_arc number) entries → length mine ≤ length entries
-mine_few entries mine number is = rw (is, length-filter (of_arc number) entries) (count_by-le-length (of_arc number) entries)
+pub mine_few : (entries mine : List Entry) (number : ℕ) (pairs : List (ℕ × ℕ))
+    → mine ≡ filter (of_arc number) entries → pairs ≡ pairs_of mine → length pairs ≤ length entries
+mine_few entries mine number pairs is at =
+    let long : length pairs ≡ length (filter (of_arc number) entries) =
+    ap length (at ∙ ap pairs_of is)
+    ∙ length-map (filter (of_arc number) entries) (λ (entry : Entry). (entry.tick, entry.mass)) in
+    omega (arith, long, length-filter (of_arc number) entries, count_by-le-length (of_arc number) entries)
 
 -- ---- the arcs that are left
 
-abbrev pub timed_rest : Told → List Arc → ℕ → List RawArc → Result (List Arc) HistFileFault
-timed_rest told arcs number raw = or_fault (least_fault told (enumerate_from number raw)) (Ok (arcs ++ map (arc_of told) (enumerate_from number raw)))
+abbrev pub timed_rest : Contents → List Arc → ℕ → List RawArc → Result (List Arc) HistFileFault
+timed_rest known arcs number raw =
+    fault_first (least_fault known (enumerate_from number raw))
+    (Ok (arcs ++ map (arc_of known) (enumerate_from number raw)))
 
-pub rest_more : (told : Told) (arcs : List Arc) (number : ℕ) (arc : RawArc) (raw : List RawArc) → arc_fault told (number, arc) ≡ None → timed_rest told arcs number (arc ∷ raw) ≡ timed_rest told (arcs ++ arc_of told (number, arc) ∷ []) (number + 1) raw
-rest_more told arcs number arc raw none = rw (none, append_assoc arcs (arc_of told (number, arc) ∷ []) (map (arc_of told) (enumerate_from (number + 1) raw))) refl
+rest_more : (known : Contents) (arcs : List Arc) (number : ℕ) (arc : RawArc) (raw : List RawArc)
+    → arc_fault known (number, arc) ≡ None
+    → timed_rest known arcs number (arc ∷ raw)
+    ≡ timed_rest known (arcs ++ arc_of known (number, arc) ∷ []) (number + 1) raw
+rest_more known arcs number arc raw none =
+    rw (none, append_assoc arcs (arc_of known (number, arc) ∷ []) (map (arc_of known) (enumerate_from (number + 1) raw))) refl
 
-pub rest_fault : (told : Told) (arcs : List Arc) (number : ℕ) (arc : RawArc) (raw : List RawArc) (why : HistFileFault) → arc_fault told (number, arc) ≡ Some why → timed_rest told arcs number (arc ∷ raw) ≡ Err why
-rest_fault told arcs number arc raw why some = rw some refl
-
--- a fault that comes of another answer
-pub err_means : {T V : Type 0} (view : T → V) (why : HistFileFault) (o : Option HistFileFault) (said : Result V HistFileFault) → Adds {T = T} (Err why) o → (o ≡ Some why → said ≡ Err why) → MeansBy view (Err why) said
-err_means view fault.Header o said adds is = is adds
-err_means view (fault.Fields n) o said adds is = is adds
-err_means view (fault.Number n) o said adds is = is adds
-err_means view (fault.NoArc n) o said adds is = is adds
-err_means view (fault.ZeroTick n) o said adds is = is adds
-err_means view (fault.RepeatedTick n) o said adds is = is adds
-err_means view (fault.Sum n) o said adds is = is adds
-err_means view (fault.ZeroTime n) o said adds is = is adds
-err_means view fault.NoMemory o said adds is = tt
+rest_fault : (known : Contents) (arcs : List Arc) (number : ℕ) (arc : RawArc) (raw : List RawArc) (why : HistFileFault)
+    → arc_fault known (number, arc) ≡ Some why → timed_rest known arcs number (arc ∷ raw) ≡ Err why
+rest_fault known arcs number arc raw why some = rw some refl
 
 -- ---- one arc of the graph after the other
 
-abbrev pub told_of : ℕ → List Entry → Told
-told_of scale entries = record { scale = scale; entries = entries }
+next_arc : (raw : List RawArc) (index : ℕ) (arc : RawArc) → index < length raw
+    → arc ≡ get_or raw index arc → drop index raw ≡ arc ∷ drop (index + 1) raw
+next_arc raw index arc under at =
+    drop_more raw index arc under ∙ ap (λ (arc : RawArc). arc ∷ drop (index + 1) raw) (sym at)
 
-next_arc : (raw : List RawArc) (index : ℕ) (arc : RawArc) → index < length raw → arc ≡ get_or raw index arc → drop index raw ≡ arc ∷ drop (index + 1) raw
-next_arc raw index arc under at = drop_more raw index arc under ∙ ap (λ (arc : RawArc). arc ∷ drop (index + 1) raw) (sym at)
+pub arc_refused : (known : Contents) (mine : List Entry) (pairs : List (ℕ × ℕ)) (arcs : List Arc)
+    (all raw : List RawArc) (index : ℕ) (arc : RawArc) (why : HistFileFault) → index < length raw
+    → arc ≡ get_or raw index arc → mine ≡ filter (of_arc (index + 1)) known.entries
+    → pairs ≡ pairs_of mine
+    → timed_rest known arcs (index + 1) (drop index raw) ≡ timed known all
+    → time_fault known.scale (index + 1) arc.weight pairs ≡ Some why → timed known all ≡ Err why
+arc_refused known mine pairs arcs all raw index arc why under at is pairs_are so e =
+    let here : arc_fault known (index + 1, arc) ≡ Some why = rw (pairs_are, is) at e in
+    sym so
+    ∙ ap (timed_rest known arcs (index + 1)) (next_arc raw index arc under at)
+    ∙ rest_fault known arcs (index + 1) arc (drop (index + 1) raw) why here
 
-pub arc_refused : (scale : ℕ) (entries mine : List Entry) (arcs : List Arc) (all raw : List RawArc) (index : ℕ) (arc : RawArc) (why : HistFileFault) → index < length raw → arc ≡ get_or raw index arc
-    → mine ≡ filter (of_arc (index + 1)) entries → timed_rest (told_of scale entries) arcs (index + 1) (drop index raw) ≡ timed (told_of scale entries) all
-    → time_fault scale (index + 1) arc.weight (pairs_of mine) ≡ Some why → timed (told_of scale entries) all ≡ Err why
-arc_refused scale entries mine arcs all raw index arc why under at is so e =
-    let here : arc_fault (told_of scale entries) (index + 1, arc) ≡ Some why = rw (← is) e in
-    sym so ∙ ap (timed_rest (told_of scale entries) arcs (index + 1)) (next_arc raw index arc under at) ∙ rest_fault (told_of scale entries) arcs (index + 1) arc (drop (index + 1) raw) why here
-
-pub arc_timed : (scale : ℕ) (entries mine : List Entry) (arcs : List Arc) (all raw : List RawArc) (index : ℕ) (arc : RawArc) (time : List (ℕ × ℕ)) → index < length raw → arc ≡ get_or raw index arc
-    → mine ≡ filter (of_arc (index + 1)) entries → timed_rest (told_of scale entries) arcs (index + 1) (drop index raw) ≡ timed (told_of scale entries) all
-    → time_fault scale (index + 1) arc.weight (pairs_of mine) ≡ None → time ≡ time_by scale arc.weight (pairs_of mine)
-    → timed_rest (told_of scale entries) (arcs ++ record { tail = arc.tail; head = arc.head; time = time } ∷ []) (index + 1 + 1) (drop (index + 1) raw) ≡ timed (told_of scale entries) all
-arc_timed scale entries mine arcs all raw index arc time under at is so e t =
-    let told = told_of scale entries in
-    let here : arc_fault told (index + 1, arc) ≡ None = rw (← is) e in
-    let one : record { tail = arc.tail; head = arc.head; time = time } ≡ arc_of told (index + 1, arc) = ap (λ (time : List (ℕ × ℕ)). record { tail = arc.tail; head = arc.head; time = time }) (rw (← is) t) in
-    ap (λ (one : Arc). timed_rest told (arcs ++ one ∷ []) (index + 1 + 1) (drop (index + 1) raw)) one
-    ∙ sym (rest_more told arcs (index + 1) arc (drop (index + 1) raw) here)
-    ∙ ap (timed_rest told arcs (index + 1)) (sym (next_arc raw index arc under at))
+pub arc_timed : (known : Contents) (mine : List Entry) (pairs : List (ℕ × ℕ)) (arcs : List Arc)
+    (all raw : List RawArc) (index : ℕ) (arc : RawArc) (time : List (ℕ × ℕ)) → index < length raw
+    → arc ≡ get_or raw index arc → mine ≡ filter (of_arc (index + 1)) known.entries
+    → pairs ≡ pairs_of mine
+    → timed_rest known arcs (index + 1) (drop index raw) ≡ timed known all
+    → time_fault known.scale (index + 1) arc.weight pairs ≡ None
+    → time_by known.scale arc.weight pairs ≡ time
+    → timed_rest known (arcs ++ record { tail = arc.tail; head = arc.head; time = time } ∷ []) (index + 1 + 1) (drop (index + 1) raw)
+    ≡ timed known all
+arc_timed known mine pairs arcs all raw index arc time under at is pairs_are so e t =
+    let here : arc_fault known (index + 1, arc) ≡ None = rw (pairs_are, is) at e in
+    let time_is : time_by known.scale arc.weight (pairs_of (filter (of_arc (index + 1)) known.entries)) ≡ time = rw (pairs_are, is) at t in
+    let one : record { tail = arc.tail; head = arc.head; time = time } ≡ arc_of known (index + 1, arc) =
+    ap (λ (time : List (ℕ × ℕ)). record { tail = arc.tail; head = arc.head; time = time }) (sym time_is) in
+    ap (λ (one : Arc). timed_rest known (arcs ++ one ∷ []) (index + 1 + 1) (drop (index + 1) raw)) one
+    ∙ sym (rest_more known arcs (index + 1) arc (drop (index + 1) raw) here)
+    ∙ ap (timed_rest known arcs (index + 1)) (sym (next_arc raw index arc under at))
     ∙ so

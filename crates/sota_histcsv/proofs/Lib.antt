@@ -1,7 +1,9 @@
 pub mod Reading
+pub mod Contents
 pub mod Keeping
-pub mod Timing
-pub mod Whole
-pub mod Telling
-pub mod Grouping
 pub mod Repeating
+pub mod Places
+pub mod Grouping
+pub mod Moved
+pub mod Whole
+pub mod Weights

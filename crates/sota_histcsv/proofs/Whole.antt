@@ -1,87 +1,162 @@
--- The arcs with their times are those of a network.
-use Rattle.std.proofs.Common.{◌≡◌, ℕ, ◌+◌, ◌≤◌, ◌==◌, nat_le, Bool, true, false, cond, List, [], ◌∷◌, length, map, Option, Some, None, Ok, refl, ◌∙◌, subst, arith}
+-- What a histogram text and a graph mean is a network.
+use Rattle.std.proofs.Common.{◌≡◌, ℕ, ◌+◌, ◌<◌, ◌≤◌, ◌==◌, nat_le, Bool, true, false, cond, List, [], ◌∷◌, length, map, Option, Some, None, Result, Ok, Err, refl, sym, ◌∙◌, ap, subst, arith}
 use Rattle.std.specs.List.{All, enumerate_from}
-use Rattle.std.specs.Option.{option_or}
-use Rattle.std.proofs.lemmas.Bool.{eqb-true}
+use Rattle.std.proofs.lemmas.Bool.{eqb-false, leb-true}
 use Rattle.std.proofs.lemmas.List.Elements.{All-nil, All-cons, All-head, All-tail}
 use Rattle.std.proofs.lemmas.List.Sums.{sum_by-cons}
+use Rattle.sota_units.specs.Memory.{◌>>=◌}
+use Rattle.sota_hist.specs.Time.{IsTime, total}
+use Rattle.sota_hist.specs.Build.{rising}
+use Rattle.sota_hist.specs.Laws.{RisingIsTime, RisingSums}
+use Rattle.sota_network.specs.Network.{Net, IsNode, IsArc, IsNet}
 use Rattle.sota_network.specs.declared.network.Arc.{Arc}
+use Rattle.sota_dimacs.specs.Graph.{IsGraph}
 use Rattle.sota_dimacs.specs.declared.graph.RawArc.{RawArc}
-use Rattle.sota_hist.specs.Time.{total}
-use Rattle.sota_hist.specs.Build.{placed, rising}
+use Rattle.sota_dimacs.specs.declared.graph.RawGraph.{RawGraph}
+use Rattle.sota_histcsv.specs.declared.table.Table.{Table}
 use Rattle.sota_histcsv.specs.declared.fault.HistFileFault.{HistFileFault}
-use Rattle.sota_histcsv.specs.declared.fault.HistFileFault.TheVariants.{Sum}
-use Rattle.sota_histcsv.specs.Histograms.{Told, or_fault, pairs_at, time_by, time_fault, arc_of, arc_fault, least_fault, numbered_arcs, timed}
+use Rattle.sota_histcsv.specs.declared.fault.HistFileFault.TheVariants.{Header, Sum, ZeroTime}
+use Rattle.sota_histcsv.specs.Records.{is_marked, without_mark, text_records}
+use Rattle.sota_histcsv.specs.Histograms.{Contents, fault_first, contents, pairs_at, time_by, time_fault, arc_of, arc_fault, least_fault, numbered_arcs, timed, net_of, hist_net}
+use Rattle.sota_histcsv.specs.Kept.{Holds, Tabulates}
+use Rattle.sota_histcsv.proofs.Keeping.{both_none, first_ok, AreContents, are_contents}
+use Rattle.sota_histcsv.proofs.Moved.{arc_is_time}
 
--- ---- masses keep their total
+-- ---- one arc
 
-total-cons : (p : ℕ × ℕ) (ps : List (ℕ × ℕ)) → total (p ∷ ps) ≡ p.1 + total ps
-total-cons p ps = sum_by-cons (λ (p : ℕ × ℕ). p.1) p ps
+fits_none : (right : Bool) (fault : HistFileFault) → cond right None (Some fault) ≡ None → right ≡ true
+fits_none true fault e = refl
+fits_none false fault e = cc
 
-total_placed : (p : ℕ × ℕ) (qs : List (ℕ × ℕ)) → total (placed p qs) ≡ p.1 + total qs
-total_placed p [] = total-cons p []
-total_placed p (q ∷ qs) =
-    elim (nat_le p.0 q.0) as (λ b. total (cond b (p ∷ q ∷ qs) (q ∷ placed p qs)) ≡ p.1 + total (q ∷ qs)) [
-      | true ↦ total-cons p (q ∷ qs)
-      | false ↦ omega (arith, total-cons q (placed p qs), total-cons q qs, total_placed p qs)
-    ]
+weight_some : (none : Bool) (fault : HistFileFault) → cond none (Some fault) None ≡ None → none ≡ false
+weight_some true fault e = cc
+weight_some false fault e = refl
 
-total_rising : (ps : List (ℕ × ℕ)) → total (rising ps) ≡ total ps
-total_rising [] = refl
-total_rising (p ∷ ps) = omega (arith, total_placed p (rising ps), total-cons p ps, total_rising ps)
+record Takes (scale : ℕ) (pairs : List (ℕ × ℕ)) : Type 0 where
+  pub time : IsTime pairs
+  pub few : total pairs ≤ scale
 
-sum_none : (right : Bool) (fault : HistFileFault) → cond right None (Some fault) ≡ None → right ≡ true
-sum_none true fault e = refl
-sum_none false fault e = cc
-
-total_is : (scale number weight : ℕ) (pairs : List (ℕ × ℕ)) → time_fault scale number weight pairs ≡ None → total (time_by scale weight pairs) ≡ scale
-total_is scale number weight [] e = omega (arith, total-cons (weight, scale) [])
-total_is scale number weight (p ∷ ps) e = total_rising (p ∷ ps) ∙ eqb-true (total (p ∷ ps)) scale (sum_none (total (p ∷ ps) == scale) (Sum number) e)
+takes : RisingSums → (scale number weight : ℕ) (pairs : List (ℕ × ℕ)) → 1 ≤ scale → IsTime (rising pairs)
+    → time_fault scale number weight pairs ≡ None → Takes scale (time_by scale weight pairs)
+takes sums scale number weight [] some valid none =
+    let apart : weight ≡ 0 → ⊥ = eqb-false weight 0 (weight_some (weight == 0) (ZeroTime number) none) in
+    let tick : 0 < weight = omega arith in
+    record {
+      time = (tick, some, tt);
+      few = omega (arith, sum_by-cons (λ (p : ℕ × ℕ). p.1) (weight, scale) []);
+    }
+takes sums scale number weight (p ∷ ps) some valid none =
+    let fits : total (p ∷ ps) ≤ scale = leb-true (total (p ∷ ps)) scale (fits_none (nat_le (total (p ∷ ps)) scale) (Sum number) none) in
+    record { time = valid; few = omega (arith, sums (λ (q : ℕ × ℕ). q.1) (p ∷ ps), fits) }
 
 -- ---- each arc
 
-both_none : (a b : Option HistFileFault) → option_or a b ≡ None → (a ≡ None) × (b ≡ None)
-both_none (Some fault) b e = cc
-both_none None b e = (refl, e)
+all_arcs : RisingIsTime → RisingSums → (net : Net) (known : Contents) (number : ℕ) (raw : List RawArc)
+    → known.scale ≡ net.scale → AreContents known
+    → All (λ (arc : RawArc). IsNode net arc.tail) raw → All (λ (arc : RawArc). IsNode net arc.head) raw
+    → least_fault known (enumerate_from number raw) ≡ None
+    → All (IsArc net) (map (arc_of known) (enumerate_from number raw))
+all_arcs valid sums net known number [] scale are tails heads none = All-nil (IsArc net)
+all_arcs valid sums net known number (arc ∷ raw) scale are tails heads none =
+    let both = both_none (arc_fault known (number, arc)) (least_fault known (enumerate_from (number + 1) raw)) none in
+    let time = takes sums known.scale number arc.weight (pairs_at known.entries number) are.scale
+    (arc_is_time valid known.entries number are.kept) both.0 in
+    let here : IsArc net (arc_of known (number, arc)) = record {
+      tail = All-head (λ (arc : RawArc). IsNode net arc.tail) arc raw tails;
+      head = All-head (λ (arc : RawArc). IsNode net arc.head) arc raw heads;
+      time = time.time;
+      total = omega (arith, time.few, scale);
+    } in
+    All-cons (IsArc net) (arc_of known (number, arc)) _ here
+    (all_arcs valid sums net known (number + 1) raw scale are
+    (All-tail (λ (arc : RawArc). IsNode net arc.tail) arc raw tails)
+    (All-tail (λ (arc : RawArc). IsNode net arc.head) arc raw heads) both.1)
 
-all_totals : (told : Told) (number : ℕ) (raw : List RawArc) → least_fault told (enumerate_from number raw) ≡ None
-    → All (λ (arc : Arc). total arc.time ≡ told.scale) (map (arc_of told) (enumerate_from number raw))
-all_totals told number [] none = All-nil _
-all_totals told number (arc ∷ raw) none =
-    let both = both_none (arc_fault told (number, arc)) (least_fault told (enumerate_from (number + 1) raw)) none in
-    All-cons (λ (arc : Arc). total arc.time ≡ told.scale) (arc_of told (number, arc)) _ (total_is told.scale number arc.weight (pairs_at told.entries number) both.0) (all_totals told (number + 1) raw both.1)
-
-all_ends : (P : ℕ → Type 0) (end : Arc → ℕ) (raw_end : RawArc → ℕ) (told : Told) → ((arc : ℕ × RawArc) → end (arc_of told arc) ≡ raw_end arc.1) → (number : ℕ) (raw : List RawArc) → All (λ (arc : RawArc). P (raw_end arc)) raw
-    → All (λ (arc : Arc). P (end arc)) (map (arc_of told) (enumerate_from number raw))
-all_ends P end raw_end told same number [] all = All-nil _
-all_ends P end raw_end told same number (arc ∷ raw) all =
-    All-cons (λ (arc : Arc). P (end arc)) (arc_of told (number, arc)) _ (rw (same (number, arc)) (All-head (λ (arc : RawArc). P (raw_end arc)) arc raw all))
-    (all_ends P end raw_end told same (number + 1) raw (All-tail (λ (arc : RawArc). P (raw_end arc)) arc raw all))
-
-same_length : (told : Told) (number : ℕ) (raw : List RawArc) → length (map (arc_of told) (enumerate_from number raw)) ≡ length raw
-same_length told number [] = refl
-same_length told number (arc ∷ raw) = omega (arith, same_length told (number + 1) raw)
+same_length : (known : Contents) (number : ℕ) (raw : List RawArc)
+    → length (map (arc_of known) (enumerate_from number raw)) ≡ length raw
+same_length known number [] = refl
+same_length known number (arc ∷ raw) = omega (arith, same_length known (number + 1) raw)
 
 -- ---- all arcs
 
-or_ok : (fault : Option HistFileFault) (arcs arcs' : List Arc) → or_fault fault (Ok arcs) ≡ Ok arcs' → (fault ≡ None) × (arcs ≡ arcs')
-or_ok (Some fault) arcs arcs' e = cc
-or_ok None arcs arcs' e = (refl, cc)
+pub record AreArcs (graph : RawGraph) (known : Contents) (arcs : List Arc) : Type 0 where
+  pub few : length arcs ≡ length graph.arcs
+  pub valid : IsNet (record { nodes = graph.nodes; scale = known.scale; arcs = arcs })
 
-pub record AreArcs (nodes : ℕ) (told : Told) (raw : List RawArc) (arcs : List Arc) : Type 0 where
-  pub few : length arcs ≡ length raw
-  pub tails : All (λ (arc : Arc). (1 ≤ arc.tail) × (arc.tail ≤ nodes)) arcs
-  pub heads : All (λ (arc : Arc). (1 ≤ arc.head) × (arc.head ≤ nodes)) arcs
-  pub totals : All (λ (arc : Arc). total arc.time ≡ told.scale) arcs
-
-pub are_arcs : (nodes : ℕ) (told : Told) (raw : List RawArc) (arcs : List Arc) → All (λ (arc : RawArc). (1 ≤ arc.tail) × (arc.tail ≤ nodes)) raw → All (λ (arc : RawArc). (1 ≤ arc.head) × (arc.head ≤ nodes)) raw
-    → timed told raw ≡ Ok arcs → AreArcs nodes told raw arcs
-are_arcs nodes told raw arcs tails heads e =
-    let ok = or_ok (least_fault told (numbered_arcs raw)) (map (arc_of told) (numbered_arcs raw)) arcs e in
-    subst (AreArcs nodes told raw) ok.1
+pub are_arcs : RisingIsTime → RisingSums → (graph : RawGraph) (known : Contents) (arcs : List Arc)
+    → IsGraph graph → AreContents known → timed known graph.arcs ≡ Ok arcs → AreArcs graph known arcs
+are_arcs valid sums graph known arcs is are e =
+    let ok = first_ok (least_fault known (numbered_arcs graph.arcs)) (map (arc_of known) (numbered_arcs graph.arcs)) arcs e in
+    let net : Net = record { nodes = graph.nodes; scale = known.scale; arcs = map (arc_of known) (numbered_arcs graph.arcs) } in
+    subst (AreArcs graph known) ok.1
     (record {
-      few = same_length told 1 raw;
-      tails = all_ends (λ (n : ℕ). (1 ≤ n) × (n ≤ nodes)) (λ (arc : Arc). arc.tail) (λ (arc : RawArc). arc.tail) told (λ arc. refl) 1 raw tails;
-      heads = all_ends (λ (n : ℕ). (1 ≤ n) × (n ≤ nodes)) (λ (arc : Arc). arc.head) (λ (arc : RawArc). arc.head) told (λ arc. refl) 1 raw heads;
-      totals = all_totals told 1 raw ok.0;
+      few = same_length known 1 graph.arcs;
+      valid = record { scale = are.scale; arcs = all_arcs valid sums net known 1 graph.arcs refl are is.tails is.heads ok.0 };
     })
+
+-- ---- the whole text
+
+net_is : RisingIsTime → RisingSums → (graph : RawGraph) (known : Contents) (net : Net) → IsGraph graph
+    → AreContents known → net_of graph known ≡ Ok net → IsNet net
+net_is valid sums graph known net is are e =
+    elim (timed known graph.arcs) as (λ o. timed known graph.arcs ≡ o → (o >>= λ arcs. Ok (record { nodes = graph.nodes; scale = known.scale; arcs = arcs })) ≡ Ok net → IsNet net) [
+      | Err fault ↦ λ o e. cc
+      | Ok arcs ↦ λ o e.
+          let same : record { nodes = graph.nodes; scale = known.scale; arcs = arcs } ≡ net = cc in
+          subst IsNet same (are_arcs valid sums graph known arcs is are o).valid
+    ] refl e
+
+known_is : RisingIsTime → RisingSums → (arcs : ℕ) (graph : RawGraph) (all : List (List (List ℕ))) (net : Net)
+    → IsGraph graph → (contents arcs all >>= net_of graph) ≡ Ok net → IsNet net
+known_is valid sums arcs graph all net is e =
+    elim (contents arcs all) as (λ o. contents arcs all ≡ o → (o >>= net_of graph) ≡ Ok net → IsNet net) [
+      | Err fault ↦ λ o e. cc
+      | Ok known ↦ λ o e. net_is valid sums graph known net is (are_contents arcs all known o) e
+    ] refl e
+
+pub text_is : RisingIsTime → RisingSums → (bytes : List ℕ) (graph : RawGraph) (net : Net) → IsGraph graph
+    → hist_net bytes graph ≡ Ok net → IsNet net
+text_is valid sums bytes graph net is e =
+    elim (is_marked (without_mark bytes)) as (λ b. cond b (Err Header) (contents (length graph.arcs) (text_records (without_mark bytes)) >>= net_of graph) ≡ Ok net → IsNet net) [
+      | true ↦ λ e. cc
+      | false ↦ λ e. known_is valid sums (length graph.arcs) graph (text_records (without_mark bytes)) net is e
+    ] e
+
+-- ---- a text that is read
+
+pub record IsRead (bytes : List ℕ) (graph : RawGraph) (table : Table) : Type 0 where
+  pub known : Contents
+  pub is : contents (length graph.arcs) (text_records (without_mark bytes)) ≡ Ok known
+  pub holds : Holds table known
+  pub are : AreContents known
+
+read_from : (bytes : List ℕ) (graph : RawGraph) (table : Table) (answer : Result Contents HistFileFault)
+    → contents (length graph.arcs) (text_records (without_mark bytes)) ≡ answer
+    → Tabulates (Ok table) answer → IsRead bytes graph table
+read_from bytes graph table (Ok known) is holds = record {
+  known = known;
+  is = is;
+  holds = holds;
+  are = are_contents (length graph.arcs) (text_records (without_mark bytes)) known is;
+}
+read_from bytes graph table (Err fault) is holds = absurd holds
+
+pub is_read : (bytes text : List ℕ) (raw : List RawArc) (graph : RawGraph) (table : Table)
+    → text ≡ without_mark bytes → raw ≡ graph.arcs
+    → Tabulates (Ok table) (contents (length raw) (text_records text)) → IsRead bytes graph table
+is_read bytes text raw graph table same arcs holds =
+    read_from bytes graph table (contents (length raw) (text_records text))
+    (rw (same, arcs) refl) holds
+
+pub net_refused : (bytes text : List ℕ) (graph : RawGraph) (known : Contents) (why : HistFileFault)
+    → text ≡ without_mark bytes → is_marked text ≡ false
+    → contents (length graph.arcs) (text_records (without_mark bytes)) ≡ Ok known
+    → timed known graph.arcs ≡ Err why → hist_net bytes graph ≡ Err why
+net_refused bytes text graph known why same plain is e = rw (ap is_marked (sym same) ∙ plain, is, e) refl
+
+pub net_read : (bytes text : List ℕ) (graph : RawGraph) (known : Contents) (arcs : List Arc)
+    → text ≡ without_mark bytes → is_marked text ≡ false
+    → contents (length graph.arcs) (text_records (without_mark bytes)) ≡ Ok known
+    → timed known graph.arcs ≡ Ok arcs
+    → hist_net bytes graph ≡ Ok (record { nodes = graph.nodes; scale = known.scale; arcs = arcs })
+net_read bytes text graph known arcs same plain is e = rw (ap is_marked (sym same) ∙ plain, is, e) refl

@@ -15,7 +15,8 @@ pub record Leaves (reader : Reader (Bor (List ℕ))) (left : List (List (List �
   pub records : AreRecords default_config reader.state text left
 
 -- a reader takes the first of the records that are left, if any
-abbrev pub TakesRecord : {E : Type 0} → Result Bool E → List (List (List ℕ)) → Reader (Bor (List ℕ)) → List (List ℕ) → Type 0
+abbrev pub TakesRecord : {E : Type 0} → Result Bool E → List (List (List ℕ))
+    → Reader (Bor (List ℕ)) → List (List ℕ) → Type 0
 TakesRecord (Ok true) [] after fields = ⊥
 TakesRecord (Ok true) (first ∷ left) after fields = (fields ≡ first) × Leaves after left
 TakesRecord (Ok false) left after fields = left ≡ []

@@ -1,4 +1,4 @@
-pub mod Answers
+pub mod Words
 pub mod Certain
 pub mod Records
 pub mod Histograms

@@ -1,8 +1,10 @@
 // Roads that take exactly their weights.
-ghost use Rattle.std.specs.Prelude.{◌≡◌, ◌≤◌, length};
-ghost use Rattle.sota_dimacs.specs.Graph.{IsGraph, MAX_ARCS};
-ghost use Rattle.sota_histcsv.specs.Answers.{Means};
-ghost use Rattle.sota_histcsv.specs.Certain.{certain_net, TakesWeights};
+ghost use Rattle.std.specs.Prelude.{◌≤◌, length};
+ghost use Rattle.sota_units.specs.Limits.{ARC_LIMIT};
+ghost use Rattle.sota_units.specs.Memory.{Answers, AnswersBy};
+ghost use Rattle.sota_dimacs.specs.Graph.{IsGraph};
+ghost use Rattle.sota_histcsv.specs.Words.{is_shortage};
+ghost use Rattle.sota_histcsv.specs.Certain.{certain_net, certain_arcs};
 
 use crate::fault::HistFileFault;
 use sota_dimacs::{RawArc, RawGraph};
@@ -11,23 +13,21 @@ use sota_network::{Arc, Network};
 use sota_units::{Scale, Tick};
 use std::alloc::Global;
 
-/// The network in which each arc takes its weight in ticks for certain, over the scale 1. ZeroTime carries the least arc of
-/// weight 0, exactly where there is one; of the other faults only NoMemory comes.
+/// The network in which each arc takes its weight in ticks for certain, over the scale 1. ZeroTime
+/// carries the least arc of weight 0, exactly where there is one; of the other faults only NoMemory
+/// comes.
 pub fn certain_network(alloc: Global, graph: RawGraph) -> Result<Network, HistFileFault>
     requires { IsGraph graph }
-    ensures { Means result (certain_net graph) }
+    ensures { Answers is_shortage result (certain_net graph) }
 {
     let arcs = certain_arcs(alloc, graph.arcs.as_slice())?;
-    match Network::build(alloc, graph.nodes, Scale::ONE, arcs) {
-        Ok(network) => Ok(network),
-        Err(_) => Err(HistFileFault::NoMemory),
-    }
+    Ok(Network::build(alloc, graph.nodes, Scale::ONE, arcs)?)
 }
 
 /// Each arc with all mass at its weight, where each has a positive one.
 fn certain_arcs(alloc: Global, raw: &[RawArc]) -> Result<Vec<Arc>, HistFileFault>
-    requires { length raw.now ≤ MAX_ARCS }
-    ensures { TakesWeights (λ arcs. arcs.items) result raw.now }
+    requires { length raw.now ≤ ARC_LIMIT }
+    ensures { AnswersBy is_shortage (λ arcs. arcs.items) result (certain_arcs raw.now) }
 {
     let mut arcs = Vec::new(alloc);
     if arcs.reserve(raw.len()).is_err() {

@@ -1,5 +1,5 @@
 // What a record of a histogram text says by itself.
-ghost use Rattle.std.specs.Prelude.{ℕ, ◌≡◌, Some, MatchResult};
+ghost use Rattle.std.specs.Prelude.{ℕ, ◌≡◌, Some, IfOk, IfSome, MatchResult};
 ghost use Rattle.csv.specs.Records.{fields_of};
 ghost use Rattle.sota_histcsv.specs.Records.{entry_by, entry_of, own_fault};
 
@@ -22,9 +22,10 @@ pub(crate) struct Entry {
 impl Entry {
     /// What the record of this number says, where its fields are three numbers.
     pub(crate) fn read(number: u32, row: &ByteRecord) -> Result<Entry, HistFileFault>
-        ensures { MatchResult result
+        ensures value { MatchResult result
             (λ entry. entry_of (number, fields_of row.now) ≡ Some entry)
             (λ fault. (arcs : ℕ) → own_fault arcs (number, fields_of row.now) ≡ Some fault) }
+        ensures number { IfOk result (λ entry. entry.number ≡ number) }
     {
         let Some((arc, tick, mass)) = three_fields(row) else {
             return Err(HistFileFault::Fields(number));
@@ -37,7 +38,8 @@ impl Entry {
 
     /// What three fields say, where they are numbers.
     fn of_words(number: u32, arc: &[u8], tick: &[u8], mass: &[u8]) -> Option<Entry>
-        ensures { result ≡ entry_by number (arc.now, tick.now, mass.now) }
+        ensures value { result ≡ entry_by number (arc.now, tick.now, mass.now) }
+        ensures number { IfSome result (λ entry. entry.number ≡ number) }
     {
         let arc = ArcId(read_u32(arc)?);
         let tick = Tick(read_u32(tick)?);

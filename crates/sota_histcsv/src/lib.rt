@@ -5,6 +5,7 @@ mod certain;
 mod entry;
 mod fault;
 mod histograms;
+pub mod laws;
 mod records;
 mod repeats;
 mod table;

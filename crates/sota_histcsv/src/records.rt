@@ -20,13 +20,14 @@ pub(crate) fn reader_of<'a>(alloc: Global, text: &'a [u8]) -> Reader<&'a [u8]>
         .from_reader(alloc, text)
 }
 
-/// Puts the next record into the row, and says whether there was one. Each error that `csv` reports
-/// is taken for want of memory: it has no other cause over bytes in memory.
+/// Puts the next record into the row, and answers whether there was one. Each error that `csv`
+/// reports is taken for want of memory: it has no other cause over bytes in memory.
 pub(crate) fn next_record(
     reader: &mut Reader<&[u8]>,
     row: &mut ByteRecord,
 ) -> Result<bool, NoMemory>
-    ensures { (left : List (List (List ℕ))) → Leaves reader.old left → TakesRecord result left reader.new (fields_of row.new) }
+    ensures { (left : List (List (List ℕ))) → Leaves reader.old left
+        → TakesRecord result left reader.new (fields_of row.new) }
 {
     match reader.read_byte_record(row) {
         Ok(found) => Ok(found),
@@ -36,7 +37,8 @@ pub(crate) fn next_record(
 
 /// The fields of a record, if they are three.
 pub(crate) fn three_fields(row: &ByteRecord) -> Option<(&[u8], &[u8], &[u8])>
-    ensures { option_map (λ words. (words.0.now, words.1.now, words.2.now)) result ≡ three (fields_of row.now) }
+    ensures { option_map (λ words. (words.0.now, words.1.now, words.2.now)) result
+        ≡ three (fields_of row.now) }
 {
     if row.len() != 3 {
         return None;

@@ -1,32 +1,18 @@
-// The first record that gives mass to a place that has some.
-ghost use Rattle.std.specs.Prelude.{◌≡◌, [], length, IfOk, option_map};
-ghost use Rattle.sota_histcsv.specs.declared.fault.HistFileFault.TheVariants.{RepeatedTick};
-ghost use Rattle.sota_histcsv.specs.Kept.{NumbersRise};
-ghost use Rattle.sota_histcsv.specs.Repeats.{first_repeat, IsByPlace, IsLeastRepeat, lesser, lesser_if};
+// The order of entries by their places, and the first that repeats a place.
+ghost use Rattle.std.specs.Prelude.{◌≡◌, length};
+ghost use Rattle.sota_histcsv.specs.Repeats.{IsByPlace, IsLeastRepeat, lesser, lesser_if};
 
 use crate::entry::Entry;
-use sota_units::NoMemory;
-use std::alloc::Global;
-
-/// The number of the first entry whose tick of its arc an earlier one has. Linear but for a sort.
-pub(crate) fn first_repeat(alloc: Global, entries: &[Entry]) -> Result<Option<u32>, NoMemory>
-    requires { NumbersRise entries.now }
-    ensures { IfOk result (λ number. option_map RepeatedTick number ≡ first_repeat [] entries.now) }
-{
-    let mut sorted = Vec::from_slice(alloc, entries)?;
-    sort_by_place(&mut sorted);
-    Ok(least_repeat(&sorted))
-}
 
 /// Puts the entries in the order of their arcs, then ticks, then numbers.
-fn sort_by_place(entries: &mut Vec<Entry>)
+pub(crate) fn sort_by_place(entries: &mut Vec<Entry>)
     ensures { IsByPlace entries.old.items entries.new.items }
 {
     entries.sort_unstable_by_key(|entry| (entry.arc, entry.tick, entry.number));
 }
 
-/// The least number of an entry that stands behind one of its place.
-fn least_repeat(sorted: &[Entry]) -> Option<u32>
+/// The least number of an entry that stands after one of its place.
+pub(crate) fn least_repeat(sorted: &[Entry]) -> Option<u32>
     ensures { IsLeastRepeat sorted.now (length sorted.now) result }
 {
     let mut least = None;

@@ -1,17 +1,18 @@
 // One pass over the records of a histogram text.
-ghost use Rattle.std.specs.Prelude.{◌≡◌, ◌≤◌, ◌<◌, ◌^◌, ◌++◌, [], false, length, option_to_list, OnOk, IfOk, IfSome, MatchResult, None, Some, Ok};
-ghost use Rattle.std.specs.List.{All};
+ghost use Rattle.std.specs.Prelude.{◌≡◌, ◌≤◌, ◌<◌, ◌^◌, ◌++◌, [], false, length, None, Some, Ok};
+ghost use Rattle.std.specs.Prelude.{option_to_list, OnOk, IfOk, IfSome, MatchResult};
 ghost use Rattle.csv.specs.Records.{fields_of};
-ghost use Rattle.sota_histcsv.specs.Records.{is_marked, text_records, scale_in, header_scale, entry_of, kept, is_arc, own_fault};
-ghost use Rattle.sota_histcsv.specs.Histograms.{or_fault, told};
-ghost use Rattle.sota_histcsv.specs.Kept.{told_in, IsKept, AreKept, NumbersRise};
+ghost use Rattle.sota_units.specs.Limits.{TEXT_LIMIT};
+ghost use Rattle.sota_histcsv.specs.Records.{is_marked, text_records, scale_in, header_scale};
+ghost use Rattle.sota_histcsv.specs.Records.{entry_of, kept, is_arc, own_fault};
+ghost use Rattle.sota_histcsv.specs.Histograms.{fault_first, contents};
+ghost use Rattle.sota_histcsv.specs.Kept.{contents_in, Tabulates, NumbersRise};
 ghost use Rattle.sota_histcsv.specs.Repeats.{first_repeat};
-ghost use Rattle.sota_histcsv.specs.Answers.{MeansBy};
 
 use crate::entry::Entry;
 use crate::fault::HistFileFault;
 use crate::records::{next_record, reader_of, three_fields};
-use crate::repeats::first_repeat;
+use crate::repeats::{least_repeat, sort_by_place};
 use csv::ByteRecord;
 use sota_text::read_u32;
 use sota_units::{ArcId, NoMemory, Scale};
@@ -24,12 +25,12 @@ pub(crate) struct Table {
     pub(crate) entries: Vec<Entry>,
 }
 
-/// What the records of a text tell of a graph with so many arcs, or the first fault of a record.
+/// The contents of a text for a graph with so many arcs, by rising places, or the first fault of a
+/// record. Linear but for one sort.
 pub(crate) fn read_table(alloc: Global, text: &[u8], arcs: u32) -> Result<Table, HistFileFault>
-    requires size { length text.now ≤ 67108864 }
+    requires size { length text.now ≤ TEXT_LIMIT }
     requires plain { is_marked text.now ≡ false }
-    ensures told { MeansBy told_in result (told arcs (text_records text.now)) }
-    ensures kept { IfOk result (λ table. AreKept table.entries.items) }
+    ensures holds { Tabulates result (contents arcs (text_records text.now)) }
     ensures few { IfOk result (λ table. length table.entries.items < 2 ^ 32) }
 {
     let mut reader = reader_of(alloc, text);
@@ -43,44 +44,43 @@ pub(crate) fn read_table(alloc: Global, text: &[u8], arcs: u32) -> Result<Table,
     let mut entries = Vec::new(alloc);
     for number in 1..u32::MAX {
         if !next_record(&mut reader, &mut row)? {
-            return settled(alloc, Table { scale, entries }, None);
+            return arrange(Table { scale, entries }, None);
         }
         match kept_entry(arcs, number, &row) {
             Ok(entry) => keep(&mut entries, entry)?,
-            Err(fault) => return settled(alloc, Table { scale, entries }, Some(fault)),
+            Err(fault) => return arrange(Table { scale, entries }, Some(fault)),
         }
     }
     unreachable!()
 }
 
-/// The table, or the fault of the first record that repeats a place, or else that of a record
-/// behind all of these, if there is one.
-fn settled(
-    alloc: Global,
-    table: Table,
-    fault: Option<HistFileFault>,
-) -> Result<Table, HistFileFault>
-    requires rise { NumbersRise table.entries.items }
-    requires each { All IsKept table.entries.items }
-    ensures told { MeansBy told_in result (or_fault (first_repeat [] table.entries.items) (or_fault fault (Ok (told_in table)))) }
-    ensures kept { IfOk result (λ table. AreKept table.entries.items) }
-    ensures same { IfOk result (λ same. same ≡ table) }
+/// The table with its entries by rising places, or the fault of the first record that repeats a
+/// place, or else that of a record after all of these, if there is one.
+fn arrange(table: Table, fault: Option<HistFileFault>) -> Result<Table, HistFileFault>
+    requires { NumbersRise table.entries.items }
+    ensures holds { Tabulates result
+        (fault_first (first_repeat [] table.entries.items)
+            (fault_first fault (Ok (contents_in table)))) }
+    ensures few { IfOk result (λ same. length same.entries.items ≡ length table.entries.items) }
 {
-    if let Some(number) = first_repeat(alloc, &table.entries)? {
+    let Table { scale, mut entries } = table;
+    sort_by_place(&mut entries);
+    if let Some(number) = least_repeat(&entries) {
         return Err(HistFileFault::RepeatedTick(number));
     }
     match fault {
         Some(fault) => Err(fault),
-        None => Ok(table),
+        None => Ok(Table { scale, entries }),
     }
 }
 
 /// What a record says, if it is not dropped, or what is wrong with it by itself.
 fn kept_entry(arcs: u32, number: u32, row: &ByteRecord) -> Result<Option<Entry>, HistFileFault>
     ensures fault { MatchResult result
-        (λ entry. (own_fault arcs (number, fields_of row.now) ≡ None) × (entry ≡ kept (entry_of (number, fields_of row.now))))
+        (λ entry. (own_fault arcs (number, fields_of row.now) ≡ None)
+        × (entry ≡ kept (entry_of (number, fields_of row.now))))
         (λ fault. own_fault arcs (number, fields_of row.now) ≡ Some fault) }
-    ensures kept { IfOk result (λ entry. IfSome entry (λ entry. IsKept entry × (entry.number ≡ number))) }
+    ensures number { IfOk result (λ entry. IfSome entry (λ entry. entry.number ≡ number)) }
 {
     let entry = Entry::read(number, row)?;
     if !is_arc(arcs, entry.arc) {
@@ -113,7 +113,7 @@ fn is_arc(arcs: u32, arc: ArcId) -> bool
     0 < arc && arc <= arcs
 }
 
-/// The scale that a header tells.
+/// The scale of a header.
 fn header_scale(row: &ByteRecord) -> Option<Scale>
     ensures { result ≡ header_scale (fields_of row.now) }
 {

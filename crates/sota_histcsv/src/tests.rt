@@ -40,6 +40,39 @@ fn records_give_times(rt: HostRuntime) -> Result<(), Fail> {
     Ok(())
 }
 
+// What the masses of an arc lack of the scale is lost; an arc whose masses are all 0 takes its
+// weight, as does one without records.
+#[test]
+fn masses_are_lost(rt: HostRuntime) -> Result<(), Fail> {
+    let alloc = rt.alloc();
+    let graph = read_graph(alloc, TRIANGLE)?;
+    let network = read_histograms(alloc, b"arc,tick,mass/4\n1,2,1\n1,1,2\n3,5,0", graph)?;
+    let pairs = [
+        (1, [(Tick(1), Mass(2)), (Tick(2), Mass(1))].as_slice()),
+        (2, [(Tick(1), Mass(4))].as_slice()),
+        (3, [(Tick(3), Mass(4))].as_slice()),
+    ];
+    for (number, pairs) in pairs {
+        let arc = network.arc(ArcId(number)).ok_or("no arc")?;
+        assert_eq!(rt; arc.time.pairs(), pairs);
+    }
+    Ok(())
+}
+
+#[test]
+fn faults_have_words_and_places(rt: HostRuntime) -> Result<(), Fail> {
+    let table = [
+        (HistFileFault::Header, b"Header".as_slice(), 0),
+        (HistFileFault::RepeatedTick(7), b"RepeatedTick", 7),
+        (HistFileFault::NoMemory, b"NoMemory", 0),
+    ];
+    for (fault, word, place) in table {
+        assert_eq!(rt; fault.word(), word);
+        assert_eq!(rt; fault.place(), place);
+    }
+    Ok(())
+}
+
 // Faulty texts for the triangle of roads.
 #[test]
 fn first_faults(rt: HostRuntime) -> Result<(), Fail> {
@@ -68,7 +101,7 @@ fn first_faults(rt: HostRuntime) -> Result<(), Fail> {
         ),
         (b"arc,tick,mass/0\n", HistFileFault::Header),
         (b"arc,tick,mass/1000000001\n", HistFileFault::Header),
-        (b"arc,tick,mass/4\n1,1,2\n1,2,1", HistFileFault::Sum(1)),
+        (b"arc,tick,mass/4\n1,1,2\n1,2,3", HistFileFault::Sum(1)),
     ];
     for (bytes, want) in faults {
         let graph = read_graph(rt.alloc(), TRIANGLE)?;
@@ -79,7 +112,7 @@ fn first_faults(rt: HostRuntime) -> Result<(), Fail> {
     Ok(())
 }
 
-// Neither arc has a good time: the least is told.
+// Arcs without a weight: the least that has no good time is answered.
 #[test]
 fn least_arc_first(rt: HostRuntime) -> Result<(), Fail> {
     let faults = [
@@ -87,7 +120,8 @@ fn least_arc_first(rt: HostRuntime) -> Result<(), Fail> {
             b"arc,tick,mass/4\n2,1,1".as_slice(),
             HistFileFault::ZeroTime(1),
         ),
-        (b"arc,tick,mass/4\n1,1,1", HistFileFault::Sum(1)),
+        (b"arc,tick,mass/4\n1,1,5", HistFileFault::Sum(1)),
+        (b"arc,tick,mass/4\n1,1,1", HistFileFault::ZeroTime(2)),
         (b"\xEF\xBB\xBFarc,tick,mass/4", HistFileFault::ZeroTime(1)),
     ];
     for (bytes, want) in faults {

@@ -1,57 +1,55 @@
 // The times of arcs from the entries of a histogram text.
-ghost use Rattle.std.specs.Prelude.{ℕ, ◌≡◌, ◌≤◌, ◌<◌, ◌^◌, ◌==◌, [], length, IfOk, OnOk};
-ghost use Rattle.std.specs.List.{All, count_by, prefix_len};
-ghost use Rattle.sota_dimacs.specs.Graph.{MAX_ARCS};
-ghost use Rattle.sota_histcsv.specs.Histograms.{timed, time_by, time_fault, pairs_of};
-ghost use Rattle.sota_histcsv.specs.Kept.{told_in, IsKept, AreKept, IsByArc};
-ghost use Rattle.sota_histcsv.specs.Answers.{MeansBy, Adds};
+ghost use Rattle.std.specs.Prelude.{◌≡◌, ◌≤◌, ◌<◌, ◌^◌, ◌==◌, [], Ok, length, OnOk};
+ghost use Rattle.std.specs.List.{All, prefix_len};
+ghost use Rattle.sota_units.specs.Limits.{ARC_LIMIT};
+ghost use Rattle.sota_units.specs.Memory.{Answers, AnswersBy};
+ghost use Rattle.sota_hist.specs.Time.{IsTime};
+ghost use Rattle.sota_histcsv.specs.Words.{is_shortage};
+ghost use Rattle.sota_histcsv.specs.Histograms.{fault_first, timed, time_by, time_fault, pairs_of};
+ghost use Rattle.sota_histcsv.specs.Kept.{contents_in, IsKept, PlacesRise};
 
 use crate::entry::Entry;
 use crate::fault::HistFileFault;
 use crate::table::Table;
 use sota_dimacs::RawArc;
-use sota_hist::{HistFault, Histogram};
+use sota_hist::laws::order_of_pairs;
+use sota_hist::{Histogram, total_of};
 use sota_network::Arc;
 use sota_units::{ArcId, Mass, NoMemory, Scale, Tick};
 use std::alloc::Global;
 
-/// The arcs of a graph with the times that a table tells, where each has one.
+/// The arcs of a graph with the times of a table, where each has one.
 pub(crate) fn timed_arcs(
     alloc: Global,
-    table: Table,
+    table: &Table,
     raw: &[RawArc],
 ) -> Result<Vec<Arc>, HistFileFault>
-    requires few { length raw.now ≤ MAX_ARCS }
-    requires kept { AreKept table.entries.items }
-    requires room { length table.entries.items < 2 ^ 32 }
-    ensures { MeansBy (λ arcs. arcs.items) result (timed (told_in table) raw.now) }
+    requires few { length raw.now ≤ ARC_LIMIT }
+    requires each { All IsKept table.now.entries.items }
+    requires rise { PlacesRise table.now.entries.items }
+    requires room { length table.now.entries.items < 2 ^ 32 }
+    ensures { AnswersBy is_shortage (λ arcs. arcs.items) result
+        (timed (contents_in table.now) raw.now) }
 {
-    let Table { scale, mut entries } = table;
-    sort_by_arc(&mut entries)?;
+    order_of_pairs();
     let mut arcs = Vec::new(alloc);
     if arcs.reserve(raw.len()).is_err() {
         return Err(HistFileFault::NoMemory);
     }
-    let mut rest = entries.as_slice();
+    let mut pairs = Vec::new(alloc);
+    let mut rest = table.entries.as_slice();
     for (index, arc) in raw.iter().enumerate() {
         let number = ArcId(index as u32 + 1);
         let (mine, others) = rest.split_at(count_first(rest, number));
         rest = others;
-        let time = time_of(alloc, scale, number, arc.weight, mine)?;
+        put_pairs(&mut pairs, mine)?;
+        let time = time_of(alloc, table.scale, number, arc.weight, &pairs)?;
         let (tail, head) = (arc.tail, arc.head);
         if arcs.push(Arc { tail, head, time }).is_err() {
             return Err(HistFileFault::NoMemory);
         }
     }
     Ok(arcs)
-}
-
-/// Puts the entries in the order of their arcs; those of one arc stay in their order.
-fn sort_by_arc(entries: &mut Vec<Entry>) -> Result<(), NoMemory>
-    ensures { OnOk result (IsByArc entries.old.items entries.new.items) }
-{
-    entries.sort_by_key(|entry| entry.arc)?;
-    Ok(())
 }
 
 /// How many entries at the front are of the arc.
@@ -66,32 +64,39 @@ fn count_first(entries: &[Entry], arc: ArcId) -> usize
     entries.len()
 }
 
-/// The time of an arc that has these entries.
+/// Makes a list the ticks and masses of entries.
+fn put_pairs(pairs: &mut Vec<(Tick, Mass)>, entries: &[Entry]) -> Result<(), NoMemory>
+    ensures { OnOk result (pairs.new.items ≡ pairs_of entries.now) }
+{
+    pairs.clear();
+    for entry in entries {
+        pairs.push((entry.tick, entry.mass))?;
+    }
+    Ok(())
+}
+
+/// The time of an arc that has these pairs.
 fn time_of(
     alloc: Global,
     scale: Scale,
     number: ArcId,
     weight: u32,
-    entries: &[Entry],
+    pairs: &[(Tick, Mass)],
 ) -> Result<Histogram, HistFileFault>
-    requires room { length entries.now < 2 ^ 32 }
-    requires each { All IsKept entries.now }
-    requires once { (tick : ℕ) → count_by (λ pair. pair.0 == tick) (pairs_of entries.now) ≤ 1 }
-    ensures fault { Adds result (time_fault scale number weight (pairs_of entries.now)) }
-    ensures time { IfOk result (λ time. time ≡ time_by scale weight (pairs_of entries.now)) }
+    requires rise { IsTime pairs.now }
+    requires room { length pairs.now < 2 ^ 32 }
+    ensures { Answers is_shortage result
+        (fault_first (time_fault scale number weight pairs.now)
+            (Ok (time_by scale weight pairs.now))) }
 {
-    if entries.is_empty() {
+    if pairs.is_empty() {
         return certain_time(alloc, scale, number, weight);
     }
-    let pairs = pairs_of(alloc, entries)?;
-    match Histogram::build(alloc, scale, &pairs) {
-        Ok(time) => Ok(time),
-        Err(HistFault::NoMemory) => Err(HistFileFault::NoMemory),
-        Err(HistFault::Sum(_)) => Err(HistFileFault::Sum(number.get())),
-        // No tick of an entry is 0, and none stands twice.
-        Err(HistFault::ZeroTick(_)) => unreachable!(),
-        Err(HistFault::RepeatedTick(_)) => unreachable!(),
+    order_of_pairs();
+    if total_of(pairs) > u64::from(scale.get()) {
+        return Err(HistFileFault::Sum(number.get()));
     }
+    Ok(Histogram::from_rising(alloc, pairs)?)
 }
 
 /// All mass at the weight of an arc.
@@ -101,23 +106,11 @@ fn certain_time(
     number: ArcId,
     weight: u32,
 ) -> Result<Histogram, HistFileFault>
-    ensures fault { Adds result (time_fault scale number weight []) }
-    ensures time { IfOk result (λ time. time ≡ time_by scale weight []) }
+    ensures { Answers is_shortage result
+        (fault_first (time_fault scale number weight []) (Ok (time_by scale weight []))) }
 {
     if weight == 0 {
         return Err(HistFileFault::ZeroTime(number.get()));
     }
     Ok(Histogram::certain(alloc, scale, Tick(weight))?)
-}
-
-/// The ticks and masses of entries.
-fn pairs_of(alloc: Global, entries: &[Entry]) -> Result<Vec<(Tick, Mass)>, NoMemory>
-    ensures { IfOk result (λ pairs. pairs.items ≡ pairs_of entries.now) }
-{
-    let mut pairs = Vec::new(alloc);
-    pairs.reserve(entries.len())?;
-    for entry in entries {
-        pairs.push((entry.tick, entry.mass))?;
-    }
-    Ok(pairs)
 }

@@ -1,21 +1,15 @@
--- The arcs of the network have the ends of the graph's, and all mass at one tick.
-use Rattle.std.proofs.Common.{◌≡◌, ◌≤◌, refl}
-use Rattle.std.proofs.lemmas.List.Elements.{All-map}
-use Rattle.sota_hist.specs.Time.{total}
-use Rattle.sota_histcsv.specs.Certain.{certain_arc}
+use Rattle.std.proofs.Common.{ap, sym, ◌∙◌, arith}
+use Rattle.sota_histcsv.specs.Certain.{certain_arcs}
+use Rattle.sota_histcsv.proofs.Weights.{weights_are}
 use Rattle.sota_histcsv.proofs.certain.certain_network.Goals as goal
 
-pub build-requires-clause-tails : goal.build-requires-clause-tails
-build-requires-clause-tails c =
-    rw (c.in_ok-arcs.ensures.1, c.as_slice.ensures)
-    (All-map (λ arc. (1 ≤ arc.tail) × (arc.tail ≤ c.args.graph.nodes)) certain_arc c.args.graph.arcs c.requires.tails)
+pub build-requires-clause-arcs : goal.build-requires-clause-arcs
+build-requires-clause-arcs c =
+    let are = weights_are c.args.graph c.in_ok-arcs.arcs.items c.requires
+    (ap certain_arcs (sym c.as_slice.ensures) ∙ c.in_ok-arcs.ensures) in
+    omega (arith, are.few, c.requires.few_arcs)
 
-pub build-requires-clause-heads : goal.build-requires-clause-heads
-build-requires-clause-heads c =
-    rw (c.in_ok-arcs.ensures.1, c.as_slice.ensures)
-    (All-map (λ arc. (1 ≤ arc.head) × (arc.head ≤ c.args.graph.nodes)) certain_arc c.args.graph.arcs c.requires.heads)
-
-pub build-requires-clause-totals : goal.build-requires-clause-totals
-build-requires-clause-totals c =
-    rw (c.in_ok-arcs.ensures.1, c.as_slice.ensures)
-    (All-map (λ arc. total arc.time ≡ 1) certain_arc c.args.graph.arcs (λ k d under. refl))
+pub build-requires-clause-valid : goal.build-requires-clause-valid
+build-requires-clause-valid c =
+    (weights_are c.args.graph c.in_ok-arcs.arcs.items c.requires
+    (ap certain_arcs (sym c.as_slice.ensures) ∙ c.in_ok-arcs.ensures)).valid

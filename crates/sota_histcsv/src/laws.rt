@@ -1,0 +1,20 @@
+// What is true of the definitions themselves. The functions do nothing: their contracts are the
+// theorems.
+ghost use Rattle.std.specs.Prelude.{ℕ, ◌≡◌, List, Ok};
+ghost use Rattle.sota_dimacs.specs.Graph.{IsGraph};
+ghost use Rattle.sota_dimacs.specs.declared.graph.RawGraph.{RawGraph};
+ghost use Rattle.sota_network.specs.Network.{Net, IsNet};
+ghost use Rattle.sota_histcsv.specs.Certain.{certain_net};
+ghost use Rattle.sota_histcsv.specs.Histograms.{hist_net};
+
+use sota_hist::laws::order_of_pairs;
+
+/// An accepted histogram text means a network, and so does a graph whose arcs take their weights.
+pub fn texts_mean_networks()
+    ensures text { (bytes : List ℕ) (graph : RawGraph) (net : Net)
+        → IsGraph graph → hist_net bytes graph ≡ Ok net → IsNet net }
+    ensures weights { (graph : RawGraph) (net : Net)
+        → IsGraph graph → certain_net graph ≡ Ok net → IsNet net }
+{
+    order_of_pairs();
+}
