@@ -1,19 +1,17 @@
 -- The order of entries makes no difference to the arcs that take their times.
-use Rattle.std.proofs.Common.{◌≡◌, ℕ, ◌+◌, ◌≤◌, ◌==◌, ◌&&◌, nat_le, Bool, true, false, cond, List, [], ◌∷◌, length, map, Option, Some, None, Ok, refl, sym, ◌∙◌, ap, arith}
-use Rattle.std.specs.List.{All, filter, count_by, sum_by, enumerate_from}
+use Rattle.std.proofs.Common.{◌≡◌, ℕ, ◌+◌, ◌≤◌, ◌==◌, ◌&&◌, nat_le, Bool, true, false, cond, List, [], ◌∷◌, map, Some, None, Ok, refl, sym, ◌∙◌, ap, arith}
+use Rattle.std.specs.List.{All, filter, count_by, sum_by}
 use Rattle.std.specs.List.Sorted.{IsPermutation}
 use Rattle.std.specs.Option.{option_or}
-use Rattle.std.proofs.lemmas.List.Elements.{All-filter, All-map, All-weaker}
+use Rattle.std.proofs.lemmas.List.Elements.{All-filter, All-map}
 use Rattle.std.proofs.lemmas.List.Sums.{sum_by-cons}
 use Rattle.std.proofs.lemmas.List.Sorted.{All-permutation, sum_by-IsPermutation}
-use Rattle.sota_hist.specs.Time.{IsTime, total}
+use Rattle.sota_hist.specs.Time.{IsTime}
 use Rattle.sota_hist.specs.Build.{rising}
 use Rattle.sota_hist.specs.Laws.{RisingIsTime, RisingSums, SumsDecide}
-use Rattle.sota_network.specs.declared.network.Arc.{Arc}
 use Rattle.sota_dimacs.specs.declared.graph.RawArc.{RawArc}
 use Rattle.sota_histcsv.specs.declared.entry.Entry.{Entry}
 use Rattle.sota_histcsv.specs.declared.table.Table.{Table}
-use Rattle.sota_histcsv.specs.declared.fault.HistFileFault.{HistFileFault}
 use Rattle.sota_histcsv.specs.declared.fault.HistFileFault.TheVariants.{Sum}
 use Rattle.sota_histcsv.specs.Histograms.{Contents, fault_first, pairs_of, pairs_at, time_by, time_fault, arc_of, arc_fault, least_fault, numbered_arcs, timed}
 use Rattle.sota_histcsv.specs.Kept.{IsKept, is_at, AreKept, Holds, contents_in}

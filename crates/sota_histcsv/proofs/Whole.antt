@@ -1,5 +1,5 @@
 -- What a histogram text and a graph mean is a network.
-use Rattle.std.proofs.Common.{◌≡◌, ℕ, ◌+◌, ◌<◌, ◌≤◌, ◌==◌, nat_le, Bool, true, false, cond, List, [], ◌∷◌, length, map, Option, Some, None, Result, Ok, Err, refl, sym, ◌∙◌, ap, subst, arith}
+use Rattle.std.proofs.Common.{◌≡◌, ℕ, ◌+◌, ◌<◌, ◌≤◌, ◌==◌, nat_le, Bool, true, false, cond, List, [], ◌∷◌, length, map, Some, None, Result, Ok, Err, refl, sym, ◌∙◌, ap, subst, arith}
 use Rattle.std.specs.List.{All, enumerate_from}
 use Rattle.std.proofs.lemmas.Bool.{eqb-false, leb-true}
 use Rattle.std.proofs.lemmas.List.Elements.{All-nil, All-cons, All-head, All-tail}
@@ -17,7 +17,7 @@ use Rattle.sota_histcsv.specs.declared.table.Table.{Table}
 use Rattle.sota_histcsv.specs.declared.fault.HistFileFault.{HistFileFault}
 use Rattle.sota_histcsv.specs.declared.fault.HistFileFault.TheVariants.{Header, Sum, ZeroTime}
 use Rattle.sota_histcsv.specs.Records.{is_marked, without_mark, text_records}
-use Rattle.sota_histcsv.specs.Histograms.{Contents, fault_first, contents, pairs_at, time_by, time_fault, arc_of, arc_fault, least_fault, numbered_arcs, timed, net_of, hist_net}
+use Rattle.sota_histcsv.specs.Histograms.{Contents, contents, pairs_at, time_by, time_fault, arc_of, arc_fault, least_fault, numbered_arcs, timed, net_of, hist_net}
 use Rattle.sota_histcsv.specs.Kept.{Holds, Tabulates}
 use Rattle.sota_histcsv.proofs.Keeping.{both_none, first_ok, AreContents, are_contents}
 use Rattle.sota_histcsv.proofs.Moved.{arc_is_time}

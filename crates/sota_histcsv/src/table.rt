@@ -60,7 +60,7 @@ fn arrange(table: Table, fault: Option<HistFileFault>) -> Result<Table, HistFile
     requires { NumbersRise table.entries.items }
     ensures holds { Tabulates result
         (fault_first (first_repeat [] table.entries.items)
-            (fault_first fault (Ok (contents_in table)))) }
+        (fault_first fault (Ok (contents_in table)))) }
     ensures few { IfOk result (λ same. length same.entries.items ≡ length table.entries.items) }
 {
     let Table { scale, mut entries } = table;

@@ -87,7 +87,7 @@ fn time_of(
     requires room { length pairs.now < 2 ^ 32 }
     ensures { Answers is_shortage result
         (fault_first (time_fault scale number weight pairs.now)
-            (Ok (time_by scale weight pairs.now))) }
+        (Ok (time_by scale weight pairs.now))) }
 {
     if pairs.is_empty() {
         return certain_time(alloc, scale, number, weight);
