@@ -1,0 +1,62 @@
+// What is true of the definitions themselves. The functions do nothing: their contracts are the
+// theorems.
+ghost use Rattle.std.specs.Prelude.{ℕ, ◌≡◌, ◌+◌, ◌*◌, ◌^◌, ◌≤◌, slice_get, None, Some};
+ghost use Rattle.sota_units.specs.Rounding.{ONE};
+ghost use Rattle.sota_network.specs.Network.{Net, IsNet};
+ghost use Rattle.sota_network.specs.Grid.{lo};
+ghost use Rattle.sota_network.specs.Trees.{follow, score};
+ghost use Rattle.sota_network.specs.Examples.{triangle};
+ghost use Rattle.sota_polfile.specs.Table.{Table, IsTable, entry_of};
+ghost use Rattle.sota_polfile.specs.declared.entry.PolicyEntry.{PolicyEntry};
+ghost use Rattle.sota_polfile.specs.declared.row.PolicyRow.{PolicyRow};
+ghost use Rattle.sota_check.specs.Certified.{value, rule, IsCertified};
+ghost use Rattle.sota_check.specs.Rejected.{rejection};
+ghost use Rattle.sota_check.specs.Examples.{triangle_policy};
+ghost use Rattle.sota_check.specs.declared.verdict.Rejection.TheVariants.{Value};
+ghost use Rattle.sota_check.specs.Planned.{IsPlanned, AreGridRows, IsPlanFile, ask_head};
+
+/// Entry `j` of a row is the entry of the row's node for the budget that is `j` more than the row's
+/// first, and each entry stands so.
+pub fn entries_stand_in_rows()
+    ensures there { (table : Table) (k j : ℕ) (row : PolicyRow) (entry : PolicyEntry)
+        → IsTable table → slice_get table.rows k ≡ Some row → slice_get row.entries j ≡ Some entry
+        → entry_of table row.node (row.first + j) ≡ Some entry }
+    ensures only { (table : Table) (i t : ℕ) (entry : PolicyEntry) → entry_of table i t ≡ Some entry
+        → (k : ℕ) × (row : PolicyRow) × (j : ℕ) × (slice_get table.rows k ≡ Some row)
+        × (row.node ≡ i) × (t ≡ row.first + j) × (slice_get row.entries j ≡ Some entry) }
+{}
+
+/// The tree of a policy that holds attains its value at every node and budget, and no value is more
+/// than one whole.
+pub fn certified_attains()
+    ensures attains { (net : Net) (table : Table) (i t : ℕ) → IsNet net → IsCertified net table
+        → value table i t * net.scale ^ t ≤ ONE * score net table.head.dest i t
+        (follow net (rule table) table.head.dest i t) }
+    ensures whole { (net : Net) (table : Table) (i t : ℕ) → IsNet net → IsCertified net table
+        → value table i t ≤ ONE }
+{}
+
+/// The planner's file, and rows of the grid's entries, make the planner's policy.
+pub fn rows_make_plans()
+    ensures file { (net : Net) (origin dest last : ℕ) (table : Table) → IsNet net → IsTable table
+        → IsPlanFile net origin dest last table → IsPlanned net origin dest last table }
+    ensures rows { (net : Net) (origin dest last : ℕ) (table : Table) → IsTable table
+        → table.head ≡ ask_head net origin dest last
+        → AreGridRows net origin dest last table.rows → IsPlanned net origin dest last table }
+{}
+
+/// The planner's own policy holds, and the value that it names is the lower value of its ask.
+pub fn plans_hold()
+    ensures certified { (net : Net) (origin dest last : ℕ) (table : Table) → IsNet net
+        → IsPlanned net origin dest last table → IsCertified net table }
+    ensures bound { (net : Net) (origin dest last : ℕ) (table : Table) → IsNet net
+        → IsPlanned net origin dest last table → value table origin last ≡ lo net dest origin last }
+{}
+
+/// The definitions, computed for a policy of the triangle from 1 to 3 in 3 ticks, as it is and with
+/// one value raised by one unit.
+pub fn worked_examples()
+    ensures accepted { (rejection triangle (triangle_policy 500000000000000000) ≡ None)
+        × (value (triangle_policy 500000000000000000) 1 3 ≡ 750000000000000000) }
+    ensures raised { rejection triangle (triangle_policy 500000000000000001) ≡ Some (Value 2 1) }
+{}

@@ -1,0 +1,78 @@
+// What an arc is worth by the values of a policy.
+ghost use Rattle.std.specs.Prelude.{◌≡◌, ◌*◌, ◌-◌, ◌^◌, ◌<◌, ◌≤◌};
+ghost use Rattle.std.specs.List.{sum_by};
+ghost use Rattle.sota_units.specs.Rounding.{ONE, SCALE_LIMIT};
+ghost use Rattle.sota_hist.specs.Time.{total};
+ghost use Rattle.sota_network.specs.Grid.{plain_sum};
+ghost use Rattle.sota_check.specs.Certified.{value, row_value};
+
+use crate::rows::row_near;
+use sota_network::Arc;
+use sota_polfile::{PolicyRow, PolicyTable};
+use sota_units::{Grain, Mass, Scale, Tick};
+
+/// The plain sum of an arc at a budget, over the values of a policy.
+pub(crate) fn arc_sum(table: &PolicyTable, arc: &Arc, budget: u32, near: &mut usize) -> u128
+    requires { total arc.now.time ≤ SCALE_LIMIT }
+    ensures value { result ≡ plain_sum arc.now (value table.now) budget }
+    ensures within { result < 2 ^ 94 }
+{
+    let pairs = arc.time.within(Tick(budget));
+    let head = arc.head.get();
+    if head == table.head().dest {
+        return whole_sum(pairs);
+    }
+    match row_near(table.rows(), head, near) {
+        Some(row) => row_sum(row, pairs, budget),
+        None => 0,
+    }
+}
+
+/// The worth of pairs whose head is the destination.
+fn whole_sum(pairs: &[(Tick, Mass)]) -> u128
+    requires { total pairs.now ≤ SCALE_LIMIT }
+    ensures value { result ≡ sum_by (λ p. p.1 * ONE) pairs.now }
+    ensures within { result < 2 ^ 94 }
+{
+    let mut sum = 0;
+    for (_, mass) in pairs {
+        sum += u128::from(mass.get()) * u128::from(Grain::ONE.get());
+    }
+    sum
+}
+
+/// The worth of pairs whose head has this row.
+fn row_sum(row: &PolicyRow, pairs: &[(Tick, Mass)], budget: u32) -> u128
+    requires { total pairs.now ≤ SCALE_LIMIT }
+    ensures value { result ≡ sum_by (λ p. p.1 * row_value row.now (budget - p.0)) pairs.now }
+    ensures within { result < 2 ^ 94 }
+{
+    let mut sum = 0;
+    for (tick, mass) in pairs {
+        let left = budget.saturating_sub(tick.get());
+        sum += u128::from(mass.get()) * u128::from(value_in(row, left));
+    }
+    sum
+}
+
+/// The value of a row at a budget: 0 where it has no entry.
+fn value_in(row: &PolicyRow, budget: u32) -> u64
+    ensures { result ≡ row_value row.now budget }
+{
+    if budget < row.first {
+        return 0;
+    }
+    match row.entries.as_slice().get((budget - row.first) as usize) {
+        Some(entry) => entry.value,
+        None => 0,
+    }
+}
+
+/// What an arc has to be worth for a value.
+pub(crate) fn needed(units: u64, scale: Scale) -> u128
+    ensures value { result ≡ units * scale }
+    ensures within { result < 2 ^ 94 }
+    ensures limit { scale ≤ SCALE_LIMIT }
+{
+    u128::from(units) * u128::from(scale.get())
+}
