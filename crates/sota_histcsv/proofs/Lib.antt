@@ -7,3 +7,4 @@ pub mod Grouping
 pub mod Moved
 pub mod Whole
 pub mod Weights
+pub mod Accepted

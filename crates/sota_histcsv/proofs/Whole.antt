@@ -96,31 +96,48 @@ are_arcs valid sums graph known arcs is are e =
 
 -- ---- the whole text
 
-net_is : RisingIsTime → RisingSums → (graph : RawGraph) (known : Contents) (net : Net) → IsGraph graph
-    → AreContents known → net_of graph known ≡ Ok net → IsNet net
-net_is valid sums graph known net is are e =
-    elim (timed known graph.arcs) as (λ o. timed known graph.arcs ≡ o → (o >>= λ arcs. Ok (record { nodes = graph.nodes; scale = known.scale; arcs = arcs })) ≡ Ok net → IsNet net) [
+-- what an accepted text is made of
+pub record IsWhole (bytes : List ℕ) (graph : RawGraph) (net : Net) : Type 0 where
+  pub plain : is_marked (without_mark bytes) ≡ false
+  pub known : Contents
+  pub is : contents (length graph.arcs) (text_records (without_mark bytes)) ≡ Ok known
+  pub arcs : List Arc
+  pub times : timed known graph.arcs ≡ Ok arcs
+  pub net_is : record { nodes = graph.nodes; scale = known.scale; arcs = arcs } ≡ net
+
+whole_timed : (bytes : List ℕ) (graph : RawGraph) (known : Contents) (net : Net)
+    → is_marked (without_mark bytes) ≡ false
+    → contents (length graph.arcs) (text_records (without_mark bytes)) ≡ Ok known
+    → net_of graph known ≡ Ok net → IsWhole bytes graph net
+whole_timed bytes graph known net plain is e =
+    elim (timed known graph.arcs) as (λ o. timed known graph.arcs ≡ o → (o >>= λ arcs. Ok (record { nodes = graph.nodes; scale = known.scale; arcs = arcs })) ≡ Ok net → IsWhole bytes graph net) [
       | Err fault ↦ λ o e. cc
-      | Ok arcs ↦ λ o e.
-          let same : record { nodes = graph.nodes; scale = known.scale; arcs = arcs } ≡ net = cc in
-          subst IsNet same (are_arcs valid sums graph known arcs is are o).valid
+      | Ok arcs ↦ λ o e. record { plain = plain; known = known; is = is; arcs = arcs; times = o; net_is = cc }
     ] refl e
 
-known_is : RisingIsTime → RisingSums → (arcs : ℕ) (graph : RawGraph) (all : List (List (List ℕ))) (net : Net)
-    → IsGraph graph → (contents arcs all >>= net_of graph) ≡ Ok net → IsNet net
-known_is valid sums arcs graph all net is e =
-    elim (contents arcs all) as (λ o. contents arcs all ≡ o → (o >>= net_of graph) ≡ Ok net → IsNet net) [
+whole_known : (bytes : List ℕ) (graph : RawGraph) (net : Net) → is_marked (without_mark bytes) ≡ false
+    → (contents (length graph.arcs) (text_records (without_mark bytes)) >>= net_of graph) ≡ Ok net
+    → IsWhole bytes graph net
+whole_known bytes graph net plain e =
+    elim (contents (length graph.arcs) (text_records (without_mark bytes))) as (λ o. contents (length graph.arcs) (text_records (without_mark bytes)) ≡ o → (o >>= net_of graph) ≡ Ok net → IsWhole bytes graph net) [
       | Err fault ↦ λ o e. cc
-      | Ok known ↦ λ o e. net_is valid sums graph known net is (are_contents arcs all known o) e
+      | Ok known ↦ λ o e. whole_timed bytes graph known net plain o e
+    ] refl e
+
+pub whole : (bytes : List ℕ) (graph : RawGraph) (net : Net) → hist_net bytes graph ≡ Ok net
+    → IsWhole bytes graph net
+whole bytes graph net e =
+    elim (is_marked (without_mark bytes)) as (λ b. is_marked (without_mark bytes) ≡ b → cond b (Err Header) (contents (length graph.arcs) (text_records (without_mark bytes)) >>= net_of graph) ≡ Ok net → IsWhole bytes graph net) [
+      | true ↦ λ b e. cc
+      | false ↦ λ b e. whole_known bytes graph net b e
     ] refl e
 
 pub text_is : RisingIsTime → RisingSums → (bytes : List ℕ) (graph : RawGraph) (net : Net) → IsGraph graph
     → hist_net bytes graph ≡ Ok net → IsNet net
 text_is valid sums bytes graph net is e =
-    elim (is_marked (without_mark bytes)) as (λ b. cond b (Err Header) (contents (length graph.arcs) (text_records (without_mark bytes)) >>= net_of graph) ≡ Ok net → IsNet net) [
-      | true ↦ λ e. cc
-      | false ↦ λ e. known_is valid sums (length graph.arcs) graph (text_records (without_mark bytes)) net is e
-    ] e
+    let parts = whole bytes graph net e in
+    let are = are_contents (length graph.arcs) (text_records (without_mark bytes)) parts.known parts.is in
+    subst IsNet parts.net_is (are_arcs valid sums graph parts.known parts.arcs is are parts.times).valid
 
 -- ---- a text that is read
 

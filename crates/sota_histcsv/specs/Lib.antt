@@ -5,3 +5,4 @@ pub mod Histograms
 pub mod Left
 pub mod Kept
 pub mod Repeats
+pub mod Texts
