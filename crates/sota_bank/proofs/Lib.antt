@@ -1,4 +1,5 @@
 mod Blocks
+mod ByRow
 mod Changes
 mod Empties
 mod Layouts

@@ -1,5 +1,6 @@
 -- How the rows of a bank lie in its places.
-use Rattle.std.specs.Prelude.{◌≡◌, ℕ, ◌+◌, ◌^◌, ◌<◌, ◌≤◌, List, length, map, take, drop, sum, slice_index_or, Option, Some}
+use Rattle.std.specs.Prelude.{◌≡◌, ℕ, ◌+◌, ◌^◌, ◌<◌, ◌≤◌, List, length, map, take, drop, sum}
+use Rattle.std.specs.Prelude.{slice_index_or, Option, Some}
 use Rattle.sota_bank.specs.Places.{somes}
 use Rattle.sota_bank.specs.Rows.{Row, row_of}
 use Rattle.sota_bank.specs.declared.bank.Extent.{Extent}
@@ -26,7 +27,8 @@ module _ {X : Type 0} where
   -- each row lies in the places, and they lie one after another
   pub record IsLaidOut (es : List Extent) (cs : List (Option X)) : Type 0 where
     pub each : (i : ℕ) → i < length es → IsRowIn cs (extent_at es i)
-    pub apart : (i j : ℕ) → i < j → j < length es → (extent_at es i).start + (extent_at es i).cap ≤ (extent_at es j).start
+    pub apart : (i j : ℕ) → i < j → j < length es
+        → (extent_at es i).start + (extent_at es i).cap ≤ (extent_at es j).start
     pub small : length cs ≤ 2 ^ 31
 
 -- one extent a capacity, each empty, and they lie one after another

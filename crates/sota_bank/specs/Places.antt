@@ -1,5 +1,6 @@
 -- Places side by side, each empty or written.
-use Rattle.std.specs.Prelude.{◌≡◌, ℕ, ◌+◌, ◌≤◌, List, [], ◌∷◌, ◌++◌, map, length, take, drop, Option, Some, None}
+use Rattle.std.specs.Prelude.{◌≡◌, ℕ, ◌+◌, ◌≤◌, List, [], ◌∷◌, ◌++◌, map, length, take, drop}
+use Rattle.std.specs.Prelude.{Option, Some, None}
 
 module _ {X : Type 0} where
   -- the values that are there
@@ -10,7 +11,8 @@ module _ {X : Type 0} where
 
   -- the len places from the index from on hold values
   abbrev pub IsRun : List (Option X) → ℕ → ℕ → Type 0
-  IsRun cs from len = (from + len ≤ length cs) × ((xs : List X) × (take len (drop from cs) ≡ map Some xs))
+  IsRun cs from len =
+      (from + len ≤ length cs) × ((xs : List X) × (take len (drop from cs) ≡ map Some xs))
 
   -- cs, with ds in place of the len places from the index from on
   abbrev pub spliced : List (Option X) → ℕ → ℕ → List (Option X) → List (Option X)

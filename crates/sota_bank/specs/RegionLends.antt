@@ -6,5 +6,7 @@ use Rattle.sota_bank.specs.Places.{somes, spliced}
 use Rattle.sota_bank.specs.contracts.region.Region.{the_row}
 
 -- the part has the last values written through r, and the other places stay
-abbrev pub lends_part : (R : RattleType) → MutBor (List (Option R.Denot)) → ℕ → ℕ → MutBor (List R.Denot) → Fml
-lends_part R c from len r = Lends (the_row R) (Array R 0) c r (λ ws. spliced c.now from len (map Some (refill len (somes (take len (drop from c.now))) ws)))
+abbrev pub lends_part : (R : RattleType) → MutBor (List (Option R.Denot)) → ℕ → ℕ
+    → MutBor (List R.Denot) → Fml
+lends_part R c from len r = Lends (the_row R) (Array R 0) c r (λ ws.
+    spliced c.now from len (map Some (refill len (somes (take len (drop from c.now))) ws)))

@@ -1,5 +1,6 @@
 -- What a contract sees of a bank: its rows, numbered from 0, each a list with a capacity.
-use Rattle.std.specs.Prelude.{ℕ, ◌-◌, ◌<◌, ◌≤◌, List, [], ◌++◌, length, map, take, drop, slice_index_or, slice_range, slice_set, refl}
+use Rattle.std.specs.Prelude.{ℕ, ◌-◌, ◌<◌, ◌≤◌, List, [], ◌++◌, length, map, take, drop}
+use Rattle.std.specs.Prelude.{slice_index_or, slice_range, slice_set, refl}
 use Rattle.std.specs.List.{refill}
 use Rattle.std.specs.Coded.{Coded, code_by, coded×, coded_list, coded_ℕ}
 
@@ -15,7 +16,8 @@ module _ {X : Type 0} where
 
   -- a row is stored as the pair of its fields
   abbrev pub row_code : Coded X → Coded (Row X)
-  row_code c = code_by (List X × ℕ) (coded× (coded_list c) coded_ℕ) (λ r. (r.items, r.cap)) (λ p. row_of p.0 p.1) (λ _. refl)
+  row_code c = code_by (List X × ℕ) (coded× (coded_list c) coded_ℕ)
+      (λ r. (r.items, r.cap)) (λ p. row_of p.0 p.1) (λ _. refl)
 
   -- the list of a row. Where there is no such row, which no call asks for, it is empty
   abbrev pub list_at : List (Row X) → ℕ → List X
@@ -45,7 +47,8 @@ module _ {X : Type 0} where
   abbrev pub AllWithin : List (Row X) → Type 0
   AllWithin rows = (i : ℕ) → i < length rows → length (list_at rows i) ≤ cap_at rows i
 
-  -- xs, with ws in place of the entries from the index from up to to. `refill` keeps the length for a ws of any other
-  -- length, which is never written
+  -- xs, with ws in place of the entries from the index from up to to. `refill` keeps the length for
+  -- a ws of any other length, which is never written
   abbrev pub overwritten : List X → ℕ → ℕ → List X → List X
-  overwritten xs from to ws = take from xs ++ (refill (to - from) (slice_range xs from to) ws ++ drop to xs)
+  overwritten xs from to ws =
+      take from xs ++ (refill (to - from) (slice_range xs from to) ws ++ drop to xs)

@@ -1,7 +1,10 @@
 //! The bank of rows.
-ghost use Rattle.std.specs.Prelude.{◌≡◌, ◌+◌, ◌-◌, ◌^◌, ◌<◌, ◌≤◌, ℕ, List, [], ◌∷◌, ◌++◌, length, take, drop, sum, slice_index, slice_range, IfOk, OnOk, OnErr};
+ghost use Rattle.std.specs.Prelude.{◌≡◌, ◌+◌, ◌-◌, ◌^◌, ◌<◌, ◌≤◌, ℕ, List, [], ◌∷◌, ◌++◌};
+ghost use Rattle.std.specs.Prelude.{length, take, drop, sum, slice_index, slice_range};
+ghost use Rattle.std.specs.Prelude.{IfOk, OnOk, OnErr};
 ghost use Rattle.std.specs.Borrow.{sem};
-ghost use Rattle.sota_bank.specs.Rows.{list_at, cap_at, with_list, lists, capacities, empty_rows, AllWithin, overwritten};
+ghost use Rattle.sota_bank.specs.Rows.{list_at, cap_at, with_list, lists, capacities};
+ghost use Rattle.sota_bank.specs.Rows.{empty_rows, AllWithin, overwritten};
 ghost use Rattle.sota_bank.specs.Layout.{AreEmpty};
 
 use crate::region::Region;
@@ -18,7 +21,8 @@ struct Extent {
     cap: u32,
 }
 
-/// Rows of unequal length in one allocation. A contract sees the list of the rows, each a list with a capacity.
+/// Rows of unequal length in one allocation. A contract sees the list of the rows, each a list with
+/// a capacity.
 #[derive(Drop)]
 pub struct RowBank<T: Copy> {
     extents: Vec<Extent>,
@@ -91,8 +95,8 @@ impl<T: Copy> RowBank<T> {
         };
     }
 
-    /// Gives the rows these capacities: all lists move to a new allocation, each in one block copy. Where there is no
-    /// memory all is unchanged.
+    /// Gives the rows these capacities: all lists move to a new allocation, each in one block copy.
+    /// Where there is no memory all is unchanged.
     pub fn regrow(&mut self, caps: &[u32]) -> Result<(), NoMemory>
         requires rows { length caps.now ≡ length self.old }
         requires room { (row : ℕ) → row < length self.old
@@ -151,7 +155,8 @@ impl<T: Copy> RowBank<T> {
         ensures* writes_back { sem 𝓛 (lends_window T.row self.entry row from to result) }
         ensures value { result.now ≡ slice_range (list_at self.old row) from to }
         // What is written has the length of the window, so it stands there as it is.
-        ensures as_written { let list = list_at self.old row in (ws : List T) → length ws ≡ to - from
+        ensures as_written { let list = list_at self.old row in
+            (ws : List T) → length ws ≡ to - from
             → overwritten list from to ws ≡ take from list ++ (ws ++ drop to list) }
     {
         let extent = self.extents[row];

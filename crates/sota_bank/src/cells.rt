@@ -1,6 +1,8 @@
-//! The block, as Rust's `[MaybeUninit<T>]`: places side by side, each empty or written. All that handles a raw pointer
-//! is here. The pointer, the owner of the places and the right to free them are three values, as in `circular_buffer`.
-ghost use Rattle.std.specs.Prelude.{◌≡◌, ℕ, ◌+◌, ◌<◌, ◌≤◌, List, Option, Some, None, map, length, take, drop, replicate, slice_set, IfOk, IsTrue};
+//! The block, as Rust's `[MaybeUninit<T>]`: places side by side, each empty or written. All that
+//! handles a raw pointer is here. The pointer, the owner of the places and the right to free them
+//! are three values, as in `circular_buffer`.
+ghost use Rattle.std.specs.Prelude.{◌≡◌, ℕ, ◌+◌, ◌<◌, ◌≤◌, List, Option, Some, None, map, length};
+ghost use Rattle.std.specs.Prelude.{take, drop, replicate, slice_set, IfOk, IsTrue};
 ghost use Rattle.std.specs.Borrow.{sem};
 ghost use Rattle.std.specs.Mem.{type_size};
 ghost use Rattle.std.specs.Vec.Ownership.{FitsInBlock};
@@ -150,8 +152,8 @@ impl<T> Cells<T> {
         unsafe { slice::from_raw_parts_mut(base.ptr.add(from), len) }
     }
 
-    /// Moves the `len` values from the place `from` on to the places of `other` from `to` on, in one block copy. A value
-    /// that one of those held is forgotten.
+    /// Moves the `len` values from the place `from` on to the places of `other` from `to` on, in
+    /// one block copy. A value that one of those held is forgotten.
     pub(crate) fn move_run(
         &mut self,
         base: Base<T>,
@@ -164,7 +166,8 @@ impl<T> Cells<T> {
         requires { (base.ptr ≡ self.old.at) × IsRun self.old.slots from len
             × (other_base.ptr ≡ other.old.at) × (to + len ≤ length other.old.slots) }
         ensures other { (other.new.at ≡ other.old.at)
-            × (other.new.slots ≡ spliced other.old.slots to len (take len (drop from self.old.slots))) }
+            × (other.new.slots
+            ≡ spliced other.old.slots to len (take len (drop from self.old.slots))) }
         ensures emptied { (self.new.at ≡ self.old.at)
             × (self.new.slots ≡ spliced self.old.slots from len (replicate len None)) }
     {

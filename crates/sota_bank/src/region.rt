@@ -1,5 +1,6 @@
-//! A block of places that frees itself, behind safe methods.
-ghost use Rattle.std.specs.Prelude.{◌≡◌, ◌+◌, ◌<◌, ◌≤◌, List, Option, Some, None, map, length, take, drop, replicate, slice_set, IfOk};
+//! A block of places that frees itself, by safe methods.
+ghost use Rattle.std.specs.Prelude.{◌≡◌, ◌+◌, ◌<◌, ◌≤◌, List, Option, Some, None, map, length};
+ghost use Rattle.std.specs.Prelude.{take, drop, replicate, slice_set, IfOk};
 ghost use Rattle.std.specs.Borrow.{sem};
 ghost use Rattle.sota_bank.specs.Places.{IsRun, spliced};
 
@@ -8,7 +9,8 @@ use sota_units::NoMemory;
 use std::alloc::Global;
 use std::marker::Model;
 
-/// A block of `len` places in one allocation, each empty or written. A contract sees the list of the places.
+/// A block of `len` places in one allocation, each empty or written. A contract sees the list of
+/// the places.
 pub(crate) struct Region<T: Copy> {
     base: Base<T>,
     len: usize,
@@ -80,7 +82,8 @@ impl<T: Copy> Region<T> {
         self.cells.slice_mut(base, from, len)
     }
 
-    /// Moves the `len` values from the place `from` on to the places of `other` from `to` on, in one block copy.
+    /// Moves the `len` values from the place `from` on to the places of `other` from `to` on, in
+    /// one block copy.
     pub(crate) fn move_run(&mut self, from: usize, other: &mut Region<T>, to: usize, len: usize)
         requires { IsRun self.old from len × (to + len ≤ length other.old) }
         ensures other { other.new ≡ spliced other.old to len (take len (drop from self.old)) }

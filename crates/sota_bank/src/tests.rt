@@ -1,9 +1,10 @@
-//! The bank on its happy path.
+//! Each call of the bank with ample memory, and banks that are dropped.
 ghost use Rattle.std.specs.Prelude.{◌≡◌, ◌+◌, ◌<◌, ◌∷◌, [], ◌++◌, length};
 ghost use Rattle.sota_bank.specs.Rows.{list_at, cap_at, with_list};
 
 use crate::RowBank;
-use sota_units::Steps;
+use sota_units::{NoMemory, Steps};
+use std::alloc::Global;
 use std::marker::Brand;
 use std::sync::ledger::{Blank, Ledger};
 use std::test::Fail;
@@ -45,4 +46,29 @@ fn keeps_rows(rt: HostRuntime) -> Result<(), Fail> {
     assert_eq!(rt; bank.front(0), [7].as_slice());
     assert_eq!(rt; bank.len(0), 1);
     Ok(())
+}
+
+/// Makes a bank of 2 ^ 32 bytes, writes an entry and drops the bank.
+fn make_and_drop<P: Ledger>(alloc: Global, pushes: &mut Steps<P>) -> Result<(), NoMemory> {
+    let mut bank = RowBank::new(alloc, &[536_870_912])?;
+    bank.push(0, 1_u64, pushes);
+    Ok(())
+}
+
+fn make_and_drop_often<P: Ledger>(alloc: Global, blank: Blank) -> Result<(), NoMemory>
+    requires name { blank.name ≡ P.name }
+    requires parts { blank.parts ≡ P.parts }
+    requires some { 0 < blank.parts }
+{
+    let mut pushes = Steps::<P>::new(blank);
+    for _ in 0..35_000_u32 {
+        make_and_drop(alloc, &mut pushes)?;
+    }
+    Ok(())
+}
+
+// Together the banks have more than 2 ^ 47 bytes, which is all that a process can address.
+#[test]
+fn banks_are_freed(rt: HostRuntime) -> Result<(), Fail> {
+    Ok(make_and_drop_often::<Brand>(rt.alloc(), Blank::new(1))?)
 }
