@@ -1,4 +1,5 @@
--- The tree of a rule attains all values that the rule keeps up, and the choices keep up the lower ones.
+-- The tree of a rule attains all values that the rule keeps up, and the choices keep up the lower
+-- ones.
 use Rattle.std.proofs.Common.{ℕ, zero, suc, ◌≡◌, ◌+◌, ◌-◌, ◌*◌, ◌^◌, ◌/◌, ◌<◌, ◌≤◌, Bool, true, List, [], ◌∷◌, Option, Some, None, refl, sym, ◌∙◌, ap, arith, ⊎_elim, ◌==◌, ◌&&◌, subst}
 use Rattle.std.proofs.lemmas.Bool.{eq-eqb, ne_eqb, cases_eq, cases_lt, le-leb, lt-leb, and_from, and_parts, eqb-true}
 use Rattle.std.proofs.Math.Nat.{mul-le-mul_left, mul-le-mul_right, div-mul-le_self, zero-div}

@@ -15,21 +15,24 @@ best-in i P a rest h = rw (eq-eqb a.tail i h) refl
 pub best-out : (i : ℕ) (P : Arc → ℕ) (a : Arc) (rest : List Arc) → (a.tail ≡ i → ⊥) → best_of (a ∷ rest) P i ≡ best_of rest P i
 best-out i P a rest h = rw (ne_eqb a.tail i h) refl
 
--- worths that are larger by at most g have a greatest that is larger by at most g
-pub best-le : (P R : Arc → ℕ) (g i : ℕ) (arcs : List Arc) → All (λ a. P a ≤ R a + g) arcs → best_of arcs P i ≤ best_of arcs R i + g
+-- worths that are larger by at most g at node i have a greatest that is larger by at most g
+pub best-le : (P R : Arc → ℕ) (g i : ℕ) (arcs : List Arc) → All (λ a. a.tail ≡ i → P a ≤ R a + g) arcs → best_of arcs P i ≤ best_of arcs R i + g
 best-le P R g i [] h = omega arith
 best-le P R g i (a ∷ rest) h =
-    let one : P a ≤ R a + g = All-head (λ a. P a ≤ R a + g) a rest h in
-    let more : best_of rest P i ≤ best_of rest R i + g = best-le P R g i rest (All-tail (λ a. P a ≤ R a + g) a rest h) in
+    let more : best_of rest P i ≤ best_of rest R i + g = best-le P R g i rest (All-tail (λ a. a.tail ≡ i → P a ≤ R a + g) a rest h) in
     ⊎_elim
-    (λ e. rw (best-in i P a rest e, best-in i R a rest e) (omega arith))
+    (λ e.
+    let one : P a ≤ R a + g = All-head (λ a. a.tail ≡ i → P a ≤ R a + g) a rest h e in
+    rw (best-in i P a rest e, best-in i R a rest e) (omega arith))
     (λ ne. rw (best-out i P a rest ne, best-out i R a rest ne) more)
     (cases_eq a.tail i)
 
-pub best-agree : (P R : Arc → ℕ) (i : ℕ) (arcs : List Arc) → All (λ a. P a ≡ R a) arcs → best_of arcs P i ≡ best_of arcs R i
+pub best-agree : (P R : Arc → ℕ) (i : ℕ) (arcs : List Arc) → All (λ a. a.tail ≡ i → P a ≡ R a) arcs → best_of arcs P i ≡ best_of arcs R i
 best-agree P R i arcs same =
-    let up : best_of arcs P i ≤ best_of arcs R i + 0 = best-le P R 0 i arcs (All-weaker (λ a. P a ≡ R a) (λ a. P a ≤ R a + 0) (λ a e. omega arith) arcs same) in
-    let down : best_of arcs R i ≤ best_of arcs P i + 0 = best-le R P 0 i arcs (All-weaker (λ a. P a ≡ R a) (λ a. R a ≤ P a + 0) (λ a e. omega arith) arcs same) in
+    let up : best_of arcs P i ≤ best_of arcs R i + 0 =
+    best-le P R 0 i arcs (All-weaker (λ a. a.tail ≡ i → P a ≡ R a) (λ a. a.tail ≡ i → P a ≤ R a + 0) (λ a e t. omega (arith, e t)) arcs same) in
+    let down : best_of arcs R i ≤ best_of arcs P i + 0 =
+    best-le R P 0 i arcs (All-weaker (λ a. a.tail ≡ i → P a ≡ R a) (λ a. a.tail ≡ i → R a ≤ P a + 0) (λ a e t. omega (arith, e t)) arcs same) in
     omega arith
 
 pub best-bound : (P : Arc → ℕ) (m i : ℕ) (arcs : List Arc) → All (λ a. P a ≤ m) arcs → best_of arcs P i ≤ m
@@ -170,14 +173,20 @@ choice-push_new P i xs a tail more =
     let ne : P a ≡ 0 → ⊥ = λ z. omega arith in
     rw (is, ne_eqb (P a) 0 ne) (first-new P i (P a) 1 xs a more tail refl)
 
-first-agree : (P R : Arc → ℕ) (i m n : ℕ) (arcs : List Arc) → All (λ a. P a ≡ R a) arcs
+first-agree : (P R : Arc → ℕ) (i m n : ℕ) (arcs : List Arc) → All (λ a. a.tail ≡ i → P a ≡ R a) arcs
     → first_number (λ b. (b.tail == i) && (P b == m)) n arcs ≡ first_number (λ b. (b.tail == i) && (R b == m)) n arcs
 first-agree P R i m n [] same = refl
 first-agree P R i m n (a ∷ arcs) same =
-    let head : P a ≡ R a = All-head (λ a. P a ≡ R a) a arcs same in
-    let tail = first-agree P R i m (suc n) arcs (All-tail (λ a. P a ≡ R a) a arcs same) in
-    rw (head, tail) refl
+    let more : first_number (λ b. (b.tail == i) && (P b == m)) (suc n) arcs ≡ first_number (λ b. (b.tail == i) && (R b == m)) (suc n) arcs =
+    first-agree P R i m (suc n) arcs (All-tail (λ a. a.tail ≡ i → P a ≡ R a) a arcs same) in
+    ⊎_elim
+    (λ e.
+    let head : P a ≡ R a = All-head (λ a. a.tail ≡ i → P a ≡ R a) a arcs same e in
+    rw (head, more) refl)
+    (λ ne.
+    rw (and_left (a.tail == i) (P a == m) (ne_eqb a.tail i ne), and_left (a.tail == i) (R a == m) (ne_eqb a.tail i ne), more) refl)
+    (cases_eq a.tail i)
 
-pub choice-agree : (P R : Arc → ℕ) (i : ℕ) (arcs : List Arc) → All (λ a. P a ≡ R a) arcs → choice_of arcs P i ≡ choice_of arcs R i
+pub choice-agree : (P R : Arc → ℕ) (i : ℕ) (arcs : List Arc) → All (λ a. a.tail ≡ i → P a ≡ R a) arcs → choice_of arcs P i ≡ choice_of arcs R i
 choice-agree P R i arcs same =
     rw (first-agree P R i (best_of arcs P i) 1 arcs same, best-agree P R i arcs same) refl

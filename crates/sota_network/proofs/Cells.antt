@@ -120,7 +120,8 @@ module _ (net : Net) (valid : IsNet net) (origin dest last i : ℕ) (to from : O
   inside-is t =
       rw (ne_eqb i dest off, reaches-least net valid dest i dest t to onward, reaches-least net valid dest origin i (last - t) from back) (between-is last t to from)
 
--- a test that gives what `is_between` does passes from the time to the destination up to what the time from the origin leaves
+-- a test that gives what `is_between` does passes from the time to the destination up to what the
+-- time from the origin leaves
 passes-some : (test : ℕ → Bool) (last to from : ℕ) → ((t : ℕ) → test t ≡ is_between last (Some to) (Some from) t) → PassesBetween test to (last + 1 - from)
 passes-some test last to from is = record {
   inside = λ t low high. is t ∙ (rw (le-leb to t low, (let h : t + from ≤ last = omega arith in le-leb (t + from) last h)) refl);

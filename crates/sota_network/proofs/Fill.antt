@@ -33,7 +33,8 @@ module _ (net : Net) (valid : IsNet net) (dest t : ℕ) (values : List ℕ) wher
   entry-is f filled i low high =
       let P : Arc → ℕ = table_sum values net.nodes t in
       let R : Arc → ℕ = λ a. plain_sum a f t in
-      let same : All (λ a. P a ≡ R a) net.arcs = sums-agree f filled in
+      let same : All (λ a. a.tail ≡ i → P a ≡ R a) net.arcs =
+      All-weaker (λ a. P a ≡ R a) (λ a. a.tail ≡ i → P a ≡ R a) (λ a e tail. e) net.arcs (sums-agree f filled) in
       listed-at (λ j. record { sum = best_of net.arcs P j; arc = choice_of net.arcs P j }) net.nodes i no_best low high
       ∙ (rw (choice-agree P R i net.arcs same, best-agree P R i net.arcs same) refl)
 

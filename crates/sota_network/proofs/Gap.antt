@@ -1,4 +1,5 @@
--- The lower and the upper value are in order, differ by at most two units a tick, and are at most one whole.
+-- The lower and the upper value are in order, differ by at most two units a tick, and are at most
+-- one whole.
 use Rattle.std.proofs.Common.{ℕ, zero, suc, ◌≡◌, ◌+◌, ◌-◌, ◌*◌, ◌/◌, ◌%◌, ◌<◌, ◌≤◌, Option, arith, ⊎_elim}
 use Rattle.std.proofs.lemmas.List.Elements.{All-weaker}
 use Rattle.std.proofs.lemmas.Bool.{cases_eq, cases_lt}
@@ -47,12 +48,13 @@ pub ceiling-le : (q x m : ℕ) → 1 ≤ q → x ≤ q * m → ceiling_by q x �
 ceiling-le q x m pos h = quotient-le q (x + (q - 1)) m pos (omega arith)
 
 module _ (net : Net) (valid : IsNet net) (dest : ℕ) where
-  -- values at smaller budgets that differ by at most g make greatest sums that differ by at most scale * g
+  -- values at smaller budgets that differ by at most g make greatest sums that differ by at most
+  -- scale * g
   best-gap : (f h : ℕ → ℕ → ℕ) (g i t : ℕ) → ((j u : ℕ) → u < t → f j u ≤ h j u + g) → best_sum net f i t ≤ best_sum net h i t + net.scale * g
   best-gap f h g i t below =
       best-le (λ a. plain_sum a f t) (λ a. plain_sum a h t) (net.scale * g) i net.arcs
-      (All-weaker (IsArc net) (λ a. plain_sum a f t ≤ plain_sum a h t + net.scale * g)
-      (λ a v.
+      (All-weaker (IsArc net) (λ a. a.tail ≡ i → plain_sum a f t ≤ plain_sum a h t + net.scale * g)
+      (λ a v tail.
       let more : plain_sum a f t ≤ plain_sum a h t + total a.time * g = weighed-le (f a.head) (h a.head) g t 0 (λ u less. below a.head u less) a.time v.time in
       let most : total a.time * g ≤ net.scale * g = mul-le-mul_right g v.total in
       omega arith)

@@ -16,3 +16,4 @@ pub mod Reaching
 pub mod Below
 pub mod Cells
 pub mod Walking
+pub mod Reading

@@ -1,16 +1,17 @@
--- The grid and the tree of a rule satisfy their recursion: each step reads only smaller budgets, since each tick is at least 1.
-use Rattle.std.proofs.Common.{ℕ, zero, suc, ◌≡◌, ◌+◌, ◌-◌, ◌<◌, ◌≤◌, List, [], ◌∷◌, Option, Some, None, refl, ap, arith, ⊎_elim, ◌==◌, if◌then◌else◌, subst}
+-- The grid and the tree of a rule satisfy their recursion: each step reads only smaller budgets,
+-- since each tick is at least 1.
+use Rattle.std.proofs.Common.{ℕ, zero, suc, ◌≡◌, ◌-◌, ◌<◌, List, [], ◌∷◌, Option, Some, None, refl, ap, arith, ⊎_elim, ◌==◌, if◌then◌else◌, subst}
 use Rattle.std.proofs.lemmas.List.Elements.{All-weaker}
 use Rattle.std.proofs.lemmas.Option.{slice_get_within, get_or_from_slice_get}
 use Rattle.std.proofs.lemmas.Bool.{cases_lt, le-leb, lt-leb}
 use Rattle.sota_hist.specs.Time.{RisesFrom}
 use Rattle.sota_network.specs.Network.{Net, IsNet, IsArc, arc_at}
-use Rattle.sota_network.specs.Grid.{plain_sum, best_of, best_sum, value_from, lo, hi}
+use Rattle.sota_network.specs.Grid.{plain_sum, best_sum, value_from, lo, hi}
 use Rattle.sota_network.specs.Trees.{Tree, stop, tree_then, children, go_by, follow_step, follow}
 use Rattle.sota_network.specs.declared.network.Arc.{Arc}
 use Rattle.sota_units.specs.Rounding.{ONE, floor_by, ceiling_by}
 use Rattle.sota_network.proofs.Sums.{weighed-agree}
-use Rattle.sota_network.proofs.Best.{best-le}
+use Rattle.sota_network.proofs.Best.{best-agree}
 use Rattle.sota_network.proofs.Budget.{Causal, by_budget-is}
 
 -- the greatest plain sum reads only smaller budgets
@@ -19,11 +20,7 @@ best-reads net valid f g i t agree =
     let P : Arc → ℕ = λ a. plain_sum a f t in
     let R : Arc → ℕ = λ a. plain_sum a g t in
     let same : (a : Arc) → IsArc net a → P a ≡ R a = λ a v. weighed-agree (f a.head) (g a.head) t 0 (λ u h. agree a.head u h) a.time v.time in
-    let up : best_of net.arcs P i ≤ best_of net.arcs R i + 0 =
-    best-le P R 0 i net.arcs (All-weaker (IsArc net) (λ a. P a ≤ R a + 0) (λ a v. omega (arith, same a v)) net.arcs valid.arcs) in
-    let down : best_of net.arcs R i ≤ best_of net.arcs P i + 0 =
-    best-le R P 0 i net.arcs (All-weaker (IsArc net) (λ a. R a ≤ P a + 0) (λ a v. omega (arith, same a v)) net.arcs valid.arcs) in
-    omega arith
+    best-agree P R i net.arcs (All-weaker (IsArc net) (λ a. a.tail ≡ i → P a ≡ R a) (λ a v tail. same a v) net.arcs valid.arcs)
 
 value-causal : (round : ℕ → ℕ → ℕ) (net : Net) (dest : ℕ) → IsNet net → Causal (value_from round net dest)
 value-causal round net dest valid f g i t agree =

@@ -7,7 +7,7 @@ use sota_units::{ArcId, Grain, NodeId};
 use std::marker::Model;
 
 /// The lower and upper values and the choices of all nodes towards a destination, at each budget up
-/// to a last one. It takes 20 bytes a node and budget: rows of one entry a node stand one behind
+/// to a last one. It takes 20 bytes a node and budget: rows of one entry a node stand one after
 /// the other, by rising budget.
 #[derive(Drop)]
 pub struct Grid {

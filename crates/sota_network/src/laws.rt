@@ -9,6 +9,7 @@ ghost use Rattle.sota_network.specs.declared.network.Arc.{Arc};
 ghost use Rattle.sota_network.specs.Network.{Net, IsNet, IsArc, arc_at, replaced};
 ghost use Rattle.sota_network.specs.Numbers.{listed};
 ghost use Rattle.sota_network.specs.Grid.{lo, hi, choice, value_from};
+ghost use Rattle.sota_network.specs.Grid.{best_sum, choice_of, plain_sum};
 ghost use Rattle.sota_network.specs.Trees.{Encloses, Fits, follow, follow_step, score};
 ghost use Rattle.sota_network.specs.Sound.{Sound};
 ghost use Rattle.sota_network.specs.Walks.{Walk, IsLeastTime};
@@ -105,6 +106,19 @@ pub fn region_by_least_times()
     ensures dest_pairs { (net : Net) (origin dest last : ℕ)
         → pairs_at net origin dest last dest ≡ 0 }
     ensures dest_need { (net : Net) (origin dest last : ℕ) → need net origin dest last dest ≡ 0 }
+{}
+
+/// An entry of the grid is made of the entries that it reads, out of any table that has these.
+pub fn entries_of_reads()
+    ensures lower { (net : Net) (dest i t : ℕ) (table : ℕ → ℕ → ℕ) → IsNet net → i ≢ dest
+        → ((j u : ℕ) → Reads net i t j u → table j u ≡ lo net dest j u)
+        → lo net dest i t ≡ floor_by net.scale (best_sum net table i t) }
+    ensures upper { (net : Net) (dest i t : ℕ) (table : ℕ → ℕ → ℕ) → IsNet net → i ≢ dest
+        → ((j u : ℕ) → Reads net i t j u → table j u ≡ hi net dest j u)
+        → hi net dest i t ≡ ceiling_by net.scale (best_sum net table i t) }
+    ensures choice { (net : Net) (dest i t : ℕ) (table : ℕ → ℕ → ℕ) → IsNet net → i ≢ dest
+        → ((j u : ℕ) → Reads net i t j u → table j u ≡ lo net dest j u)
+        → choice net dest i t ≡ choice_of net.arcs (λ arc. plain_sum arc table t) i }
 {}
 
 /// The region of an ask is enough: its entries read the region, the destination, and budgets below

@@ -1,4 +1,5 @@
--- Each pair within the budget adds its product to the sum. It reads an earlier row, since its tick is at least 1.
+-- Each pair within the budget adds its product to the sum. It reads an earlier row, since its tick
+-- is at least 1.
 use Rattle.std.proofs.Common.{ℕ, ◌≡◌, ◌-◌, ◌*◌, ◌<◌, ◌≤◌, length, arith, ap, sym, ◌∙◌}
 use Rattle.sota_network.specs.GridView.{in_table}
 use Rattle.sota_network.proofs.Sums.{weighed-more_in, weighed-more_out, total-more}
