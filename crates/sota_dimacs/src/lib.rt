@@ -3,6 +3,7 @@
 
 mod fault;
 mod graph;
+pub mod laws;
 mod line;
 mod reader;
 #[cfg(test)]
