@@ -1,102 +1,116 @@
 -- Each line of a script by itself: where its reply stands in the text, and that its network is one.
-use Rattle.std.proofs.Common.{◌≡◌, ℕ, ◌++◌, List, [], ◌∷◌, is_some, Option, Some, None, option_map, Result, Ok, Err, cond, option_to_list, refl, sym, ◌∙◌, ap, append-nil}
+use Rattle.std.proofs.Common.{◌≡◌, ℕ, ◌++◌, List, [], ◌∷◌, Option, Some, None, option_map, Result}
+use Rattle.std.proofs.Common.{Ok, Err}
+use Rattle.std.proofs.Common.{option_to_list, refl, ◌∙◌, ap, append-nil, ◌≤◌, arith, rules}
 use Rattle.std.specs.Option.{option_or}
 use Rattle.sota_hist.specs.Time.{IsTime, total}
-use Rattle.sota_hist.specs.Build.{hist_fault, time_of}
+use Rattle.sota_hist.specs.Build.{at_most_fault, time_of}
 use Rattle.sota_hist.specs.declared.fault.HistFault.{HistFault}
-use Rattle.sota_network.specs.Network.{Net, IsNet, arc_at, replaced}
+use Rattle.sota_network.specs.Network.{Net, IsNet, replaced}
 use Rattle.sota_script.specs.declared.command.Ask3.{Ask3}
 use Rattle.sota_script.specs.declared.command.Command.{Command}
 use Rattle.sota_script.specs.declared.command.Command.TheVariants as commands
 use Rattle.sota_script.specs.declared.fault.LineFault.{LineFault}
 use Rattle.sota_session.specs.Asks.{ask_fault, answer_of}
-use Rattle.sota_session.specs.declared.ask.Ask.{Ask}
-use Rattle.sota_session.specs.declared.ask.Answer.{Answer}
 use Rattle.sota_session.specs.declared.ask.AskFault.{AskFault}
-use Rattle.sota_session.specs.declared.session.EditFault.TheVariants as edits
-use Rattle.sota_app.specs.Replies.{reply_line}
-use Rattle.sota_app.specs.Script.{Saying, Step, asked, edit_fault, done, refused_or, said_step, step, network_after, replies_to, replies_text}
+use Rattle.sota_app.specs.Replies.{reply_line, replies_text}
+use Rattle.sota_app.specs.Script.{ScriptLine, Effect, ask_on, session_ask, arc_refusal}
+use Rattle.sota_app.specs.Script.{command_refusal}
+use Rattle.sota_app.specs.Script.{effect_of, unless_refused, result_step, parsed_step, step}
+use Rattle.sota_app.specs.Script.{network_after, replies_to}
 use Rattle.sota_app.specs.declared.reply.Reply.{Reply}
 use Rattle.sota_app.specs.declared.reply.Reply.TheVariants as replies
-use Rattle.sota_app.specs.declared.reply.Cause.{Cause}
-use Rattle.sota_app.specs.declared.reply.Cause.TheVariants as causes
+use Rattle.sota_app.specs.declared.reply.Refusal.{Refusal}
+use Rattle.sota_app.specs.declared.reply.Refusal.TheVariants as refusals
 use Rattle.sota_app.proofs.Reaches.{around}
 
--- the reply to a line stands behind those to the lines above it
-pub line_in_text : (net : Net) (before : List Saying) (saying : Saying) (after : List Saying) (reply : Reply) → (step (network_after net before) saying).reply ≡ Some reply
-    → replies_text (replies_to net (before ++ saying ∷ after))
-    ≡ replies_text (replies_to net before) ++ (reply_line reply ++ replies_text (replies_to (step (network_after net before) saying).next after))
-line_in_text net before saying after reply is =
-    let rest : List ℕ = replies_text (replies_to (step (network_after net before) saying).next after) in
-    around before saying after net (network_after net before) refl
-    ∙ ap (λ (said : Option Reply). replies_text (replies_to net before) ++ (replies_text (option_to_list said) ++ rest)) is
-    ∙ ap (λ line. replies_text (replies_to net before) ++ (line ++ rest)) (append-nil (reply_line reply))
+-- the reply to a line stands after those to the lines above it
+pub line_in_text : (net : Net) (before : List ScriptLine) (line : ScriptLine)
+    (after : List ScriptLine) (reply : Reply)
+    → (step (network_after net before) line).reply ≡ Some reply
+    → replies_text (replies_to net (before ++ line ∷ after))
+    ≡ replies_text (replies_to net before) ++ (reply_line reply
+    ++ replies_text (replies_to (step (network_after net before) line).next after))
+line_in_text net before line after reply is =
+    let rest : List ℕ =
+    replies_text (replies_to (step (network_after net before) line).next after) in
+    around before line after net (network_after net before) refl
+    ∙ ap (λ (reply : Option Reply). replies_text (replies_to net before)
+    ++ (replies_text (option_to_list reply) ++ rest)) is
+    ∙ ap (λ text. replies_text (replies_to net before) ++ (text ++ rest))
+    (append-nil (reply_line reply))
 
 -- an ask that is not refused is answered on the network of its line
-pub answered_reply : (net : Net) (number : ℕ) (ask : Ask3) → ask_fault net (asked ask) ≡ None
-    → (step net (record { number = number; said = Ok (Some (commands.Ask ask)) })).reply ≡ Some (replies.Answered (asked ask) (answer_of net (asked ask)))
+pub answered_reply : (net : Net) (number : ℕ) (ask : Ask3) → ask_fault net (session_ask ask) ≡ None
+    → (step net (ask_on number ask)).reply
+    ≡ Some (replies.Answered (session_ask ask) (answer_of net (session_ask ask)))
 answered_reply net number ask accepted =
-    ap (λ (fault : Option AskFault). (refused_or (option_map (λ fault. causes.Ask fault) fault) net number (done net (commands.Ask ask))).reply) accepted
+    ap (λ (fault : Option AskFault).
+    (result_step net number (unless_refused (option_map (λ fault. refusals.Ask fault) fault)
+    (effect_of net (commands.Ask ask)))).reply) accepted
+
+-- an ask leaves the network
+pub ask_keeps : (net : Net) (number : ℕ) (ask : Ask3) (fault : Option AskFault)
+    → (result_step net number (unless_refused (option_map (λ fault. refusals.Ask fault) fault)
+    (effect_of net (commands.Ask ask)))).next ≡ net
+ask_keeps net number ask None = refl
+ask_keeps net number ask (Some fault) = refl
 
 -- ---- the network of each line is one
 
--- what a network without a fault of its pairs is, in the words of the histograms and of the networks
+-- what pairs without a fault are, in the words of histograms, and what an edit keeps
 abbrev pub Built : Type 0
-Built = (scale : ℕ) (pairs : List (ℕ × ℕ)) → hist_fault scale pairs ≡ None → IsTime (time_of pairs) × (total (time_of pairs) ≡ scale)
+Built = (scale : ℕ) (pairs : List (ℕ × ℕ)) → at_most_fault scale pairs ≡ None
+    → IsTime (time_of pairs) × (total (time_of pairs) ≤ scale)
 
 abbrev pub Kept : Type 0
-Kept = (net : Net) (arc : ℕ) (time : List (ℕ × ℕ)) → IsNet net → IsTime time → total time ≡ net.scale → IsNet (replaced net arc time)
+Kept = (net : Net) (arc : ℕ) (time : List (ℕ × ℕ)) → IsNet net → IsTime time
+    → total time ≤ net.scale → IsNet (replaced net arc time)
 
--- a refused line keeps the network
-refused_keeps : (fault : Option Cause) (net : Net) (number : ℕ) (done : Step) → IsNet net → (fault ≡ None → IsNet done.next) → IsNet (refused_or fault net number done).next
-refused_keeps (Some cause) net number done valid h = valid
-refused_keeps None net number done valid h = h refl
+-- a refused command keeps the network
+refused_keeps : (refusal : Option Refusal) (net : Net) (number : ℕ) (effect : Effect) → IsNet net
+    → (refusal ≡ None → IsNet effect.next)
+    → IsNet (result_step net number (unless_refused refusal effect)).next
+refused_keeps (Some refusal) net number effect valid h = valid
+refused_keeps None net number effect valid h = h refl
 
-no_fault : {A B : Type 0} (f : A → B) (first : Option A) (rest : Option B) → option_or (option_map f first) rest ≡ None → first ≡ None
+no_fault : {A B : Type 0} (f : A → B) (first : Option A) (rest : Option B)
+    → option_or (option_map f first) rest ≡ None → first ≡ None
 no_fault f (Some fault) rest e = absurd (cc)
 no_fault f None rest e = refl
 
-edit_keeps : Built → Kept → (net : Net) (arc : ℕ) (pairs : List (ℕ × ℕ)) → IsNet net → edit_fault net arc pairs ≡ None → IsNet (done net (commands.Edit arc pairs)).next
+edit_keeps : Built → Kept → (net : Net) (arc : ℕ) (pairs : List (ℕ × ℕ)) → IsNet net
+    → command_refusal net (commands.Edit arc pairs) ≡ None
+    → IsNet (effect_of net (commands.Edit arc pairs)).next
 edit_keeps built kept net arc pairs valid none =
-    let time : hist_fault net.scale pairs ≡ None = no_fault (λ (fault : HistFault). causes.Time fault) (hist_fault net.scale pairs) (cond (is_some (arc_at net arc)) None (Some (causes.Edit edits.NoArc))) none in
+    let time : at_most_fault net.scale pairs ≡ None =
+    no_fault (λ (fault : HistFault). refusals.Time fault) (at_most_fault net.scale pairs)
+    (arc_refusal net arc) none in
     let is = built net.scale pairs time in
     kept net arc (time_of pairs) valid is.0 is.1
 
-said_keeps : Built → Kept → (net : Net) (number : ℕ) (said : Result (Option Command) LineFault) → IsNet net → IsNet (said_step net number said).next
-said_keeps built kept net number (Ok None) valid = valid
-said_keeps built kept net number (Err fault) valid = valid
-said_keeps built kept net number (Ok (Some (commands.Edit arc pairs))) valid = refused_keeps (edit_fault net arc pairs) net number (done net (commands.Edit arc pairs)) valid (edit_keeps built kept net arc pairs valid)
-said_keeps built kept net number (Ok (Some (commands.Ask ask))) valid =
-    refused_keeps (option_map (λ fault. causes.Ask fault) (ask_fault net (asked ask))) net number (done net (commands.Ask ask)) valid (λ accepted. valid)
+-- a closed arc has a time without pairs
+closed_time : IsTime []
+closed_time = search rules
 
-pub keeps_network : Built → Kept → (sayings : List Saying) (net : Net) → IsNet net → IsNet (network_after net sayings)
+line_keeps : Built → Kept → (net : Net) (number : ℕ) (parsed : Result (Option Command) LineFault)
+    → IsNet net → IsNet (parsed_step net number parsed).next
+line_keeps built kept net number (Ok None) valid = valid
+line_keeps built kept net number (Err fault) valid = valid
+line_keeps built kept net number (Ok (Some (commands.Edit arc pairs))) valid =
+    refused_keeps (command_refusal net (commands.Edit arc pairs)) net number
+    (effect_of net (commands.Edit arc pairs)) valid (edit_keeps built kept net arc pairs valid)
+line_keeps built kept net number (Ok (Some (commands.Close arc))) valid =
+    refused_keeps (command_refusal net (commands.Close arc)) net number
+    (effect_of net (commands.Close arc)) valid
+    (λ there. kept net arc [] valid closed_time (omega arith))
+line_keeps built kept net number (Ok (Some (commands.Ask ask))) valid =
+    refused_keeps (command_refusal net (commands.Ask ask)) net number
+    (effect_of net (commands.Ask ask)) valid (λ accepted. valid)
+
+pub keeps_network : Built → Kept → (lines : List ScriptLine) (net : Net) → IsNet net
+    → IsNet (network_after net lines)
 keeps_network built kept [] net valid = valid
-keeps_network built kept (saying ∷ sayings) net valid = keeps_network built kept sayings (step net saying).next (said_keeps built kept net saying.number saying.said valid)
-
--- ---- and only such an ask is answered
-
--- what is told of an answer
-abbrev pub IsAnswer : Net → Ask → Answer → Type 0
-IsAnswer net ask answer = (ask_fault net ask ≡ None) × (answer ≡ answer_of net ask)
-
-edit_answers : (fault : Option Cause) (net : Net) (number arc : ℕ) (pairs : List (ℕ × ℕ)) (ask : Ask) (answer : Answer)
-    → (refused_or fault net number (done net (commands.Edit arc pairs))).reply ≡ Some (replies.Answered ask answer) → IsAnswer net ask answer
-edit_answers (Some cause) net number arc pairs ask answer e = cc
-edit_answers None net number arc pairs ask answer e = cc
-
-ask_answers : (fault : Option AskFault) (net : Net) (number : ℕ) (said : Ask3) (ask : Ask) (answer : Answer) → ask_fault net (asked said) ≡ fault
-    → (refused_or (option_map (λ fault. causes.Ask fault) fault) net number (done net (commands.Ask said))).reply ≡ Some (replies.Answered ask answer) → IsAnswer net ask answer
-ask_answers (Some fault) net number said ask answer is e = cc
-ask_answers None net number said ask answer is e =
-    let same : asked said ≡ ask = cc in
-    let told : answer_of net (asked said) ≡ answer = cc in
-    (ap (ask_fault net) (sym same) ∙ is, sym told ∙ ap (answer_of net) same)
-
-said_answers : (net : Net) (number : ℕ) (said : Result (Option Command) LineFault) (ask : Ask) (answer : Answer) → (said_step net number said).reply ≡ Some (replies.Answered ask answer) → IsAnswer net ask answer
-said_answers net number (Ok None) ask answer e = cc
-said_answers net number (Err fault) ask answer e = cc
-said_answers net number (Ok (Some (commands.Edit arc pairs))) ask answer e = edit_answers (edit_fault net arc pairs) net number arc pairs ask answer e
-said_answers net number (Ok (Some (commands.Ask said))) ask answer e = ask_answers (ask_fault net (asked said)) net number said ask answer refl e
-
-pub answered_is : (net : Net) (saying : Saying) (ask : Ask) (answer : Answer) → (step net saying).reply ≡ Some (replies.Answered ask answer) → IsAnswer net ask answer
-answered_is net saying ask answer e = said_answers net saying.number saying.said ask answer e
+keeps_network built kept (line ∷ lines) net valid =
+    keeps_network built kept lines (step net line).next
+    (line_keeps built kept net line.number line.parsed valid)

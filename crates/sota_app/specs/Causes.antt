@@ -1,38 +1,35 @@
--- What stands behind each status.
-use Rattle.std.specs.Prelude.{◌≡◌, ◌⊎◌, ℕ, ◌+◌, List, fold, false, Option, Some, None, IfSome, option_map, Result, IsOk}
+-- What a status means: its cause, and what it says of the text that was written.
+use Rattle.std.specs.Prelude.{◌≡◌, ◌⊎◌, ℕ, ◌+◌, List, fold, false, Option, Some, None, IfSome}
+use Rattle.std.specs.Prelude.{option_map, Result, Ok, Err, IsOk}
 use Rattle.std.specs.Option.{IsSomeAnd}
 use Rattle.sota_edge.specs.Counts.{Rose, RoseBy}
 use Rattle.sota_edge.specs.Desk.{Files, DeskState, stored}
-use Rattle.sota_edge.specs.Sink.{SinkState, Wrote}
-use Rattle.sota_app.specs.Outcome.{Outcome, outcome_of, no_command, graph_of, network_of, is_dash}
-use Rattle.sota_app.specs.Refusals.{refusal_place, refusal_line}
-use Rattle.sota_app.specs.declared.refusal.Refusal.{Refusal}
-use Rattle.sota_app.specs.declared.refusal.Refusal.TheVariants.{TooLong, Graph, Hists}
-use Rattle.sota_app.specs.declared.words.Command.{Command}
-use Rattle.sota_app.specs.declared.words.Command.TheVariants as commands
+use Rattle.sota_edge.specs.Sink.{SinkState, Wrote, WrotePrefix}
+use Rattle.sota_edge.specs.declared.sink.SinkError.{SinkError}
+use Rattle.sota_edge.specs.declared.sink.SinkError.TheVariants as sinks
+use Rattle.sota_dimacs.specs.Words as graphs
+use Rattle.sota_histcsv.specs.Words as hists
+use Rattle.sota_app.specs.Outcome.{Outcome, outcome_of, refused_words}
+use Rattle.sota_app.specs.Outcome.{graph_of, network_of, is_dash}
+use Rattle.sota_app.specs.InputFaults.{fault_place, fault_line}
+use Rattle.sota_app.specs.declared.input.InputFault.{InputFault}
+use Rattle.sota_app.specs.declared.input.InputFault.TheVariants.{TooLong, Graph, Hists}
+use Rattle.sota_app.specs.declared.input.NoInput.{NoInput}
+use Rattle.sota_app.specs.declared.words.Request.{Request}
+use Rattle.sota_app.specs.declared.words.Request.TheVariants as requests
 use Rattle.sota_app.specs.declared.status.Status.{Status}
-use Rattle.sota_app.specs.declared.status.Status.TheVariants.{Done, SomeRefused, Words, Input, ReadFault, WriteFault, NoMemory}
+use Rattle.sota_app.specs.declared.status.Status.TheVariants.{Done, SomeRefused, Words, Input}
+use Rattle.sota_app.specs.declared.status.Status.TheVariants.{ReadFault, WriteFault, NoMemory}
 
--- the files after these stores, in order
-abbrev pub all_stored : List (List ℕ × List ℕ) → Files → Files
-all_stored stores files = fold (λ held store. stored store.0 store.1 held) files stores
+-- ---- what the desk tells
 
--- the whole outcome stands: its status, its text behind what was written, and its stores
-pub record Delivered (outcome : Outcome) (answer : Status)
-    (desk_old desk_new : DeskState) (sink_old sink_new : SinkState) : Type 0 where
-  pub status : outcome.status ≡ answer
-  pub text : Wrote outcome.text sink_old sink_new
-  pub stores : desk_new.holds ≡ option_map (all_stored outcome.stores) desk_old.holds
+-- a fact of the files, where the desk tells what it holds
+abbrev pub Known : DeskState → (Files → Type 0) → Type 0
+Known desk P = IfSome desk.holds P
 
--- what is said where the desk tells what it holds
-abbrev pub Told : DeskState → (Files → Type 0) → Type 0
-Told desk P = IfSome desk.holds P
-
--- no count of faults rose
-pub record NoFault (desk_old desk_new : DeskState) (sink_old sink_new : SinkState) : Type 0 where
-  pub loads : Rose desk_old.load_faults desk_new.load_faults → ⊥
-  pub stores : Rose desk_old.store_faults desk_new.store_faults → ⊥
-  pub puts : Rose sink_old.faults sink_new.faults → ⊥
+-- inputs are accepted, where the desk tells what it holds
+abbrev pub Accepted : {A : Type 0} → (Files → Result A NoInput) → DeskState → Type 0
+Accepted meaning desk = Known desk (λ files. IsOk (meaning files))
 
 -- a load of this name failed, or the desk tells that it does not hold it
 abbrev pub Unread : List ℕ → DeskState → DeskState → Type 0
@@ -40,52 +37,97 @@ Unread name old new =
     (Rose old.load_faults new.load_faults × (new.fault_name ≡ Some name))
     ⊎ IsSomeAnd old.holds (λ files. files name ≡ None)
 
--- inputs are accepted, where it is told what they mean
-abbrev pub Accepted : {A : Type 0} → (Files → Result A Outcome) → DeskState → Type 0
-Accepted said desk = Told desk (λ files. IsOk (said files))
-
--- of a file of histograms, where the word for it is no dash
+-- the file of histograms, where the word for it is no dash
 abbrev pub UnreadHists : List ℕ → DeskState → DeskState → Type 0
 UnreadHists name old new = (is_dash name ≡ false) × Unread name old new
 
--- of an input of the command, all inputs before it being accepted
+-- an input of a network could not be read, all inputs before it being accepted
 abbrev pub UnreadNetwork : List ℕ → List ℕ → DeskState → DeskState → Type 0
 UnreadNetwork graph hists old new =
     Unread graph old new ⊎ (Accepted (graph_of graph) old × UnreadHists hists old new)
 
-abbrev pub UnreadInput : Command → DeskState → DeskState → Type 0
-UnreadInput (commands.Ask said) old new = UnreadNetwork said.graph said.hists old new
-UnreadInput (commands.Run said) old new =
-    UnreadNetwork said.graph said.hists old new
-    ⊎ (Accepted (network_of said.graph said.hists) old × Unread said.script old new)
+-- an input of the request
+abbrev pub UnreadInput : Request → DeskState → DeskState → Type 0
+UnreadInput (requests.Ask ask) old new = UnreadNetwork ask.graph ask.hists old new
+UnreadInput (requests.Run run) old new =
+    UnreadNetwork run.graph run.hists old new
+    ⊎ (Accepted (network_of run.graph run.hists) old × Unread run.script old new)
 
--- a refusal for what stands in an input
-abbrev pub IsOfText : Refusal → Type 0
+-- a fault of what stands in a text; want of memory is none
+abbrev pub IsOfText : InputFault → Type 0
 IsOfText (TooLong input) = ⊥
-IsOfText (Graph fault) = Unit {0}
-IsOfText (Hists fault) = Unit {0}
+IsOfText (Graph fault) = graphs.is_shortage fault ≡ false
+IsOfText (Hists fault) = hists.is_shortage fault ≡ false
 
--- where an input is refused for its length, more than its limit was taken, which is the number in its line
-abbrev pub Took : Refusal → DeskState → DeskState → Type 0
-Took refusal old new = IsOfText refusal ⊎ RoseBy (refusal_place refusal + 1) old.taken new.taken
+-- where an input is refused for its length, more than its limit was taken, which is the number in
+-- its line
+abbrev pub Took : InputFault → DeskState → DeskState → Type 0
+Took fault old new = IsOfText fault ⊎ RoseBy (fault_place fault + 1) old.taken new.taken
 
--- the words say a command, and where it is told what that means, its whole outcome stands with this status
-abbrev pub Stands : Status → Option Command → DeskState → DeskState → SinkState → SinkState → Type 0
-Stands status said desk_old desk_new sink_old sink_new = IsSomeAnd said (λ _.
-    Told desk_old (λ files. Delivered (outcome_of said files) status desk_old desk_new sink_old sink_new))
+-- ---- outcomes that stand
 
--- what stands behind a status, where the words say this command or none
-abbrev pub Cause : Status → Option Command → DeskState → DeskState → SinkState → SinkState → Type 0
-Cause Done said desk_old desk_new sink_old sink_new = Stands Done said desk_old desk_new sink_old sink_new
-Cause SomeRefused said desk_old desk_new sink_old sink_new =
-    Stands SomeRefused said desk_old desk_new sink_old sink_new
-Cause Words said desk_old desk_new sink_old sink_new =
-    (said ≡ None) × Wrote no_command.text sink_old sink_new × (desk_new ≡ desk_old)
-Cause Input said desk_old desk_new sink_old sink_new =
-    Stands Input said desk_old desk_new sink_old sink_new
-    × ((refusal : Refusal) × Wrote (refusal_line refusal) sink_old sink_new × Took refusal desk_old desk_new)
-Cause ReadFault said desk_old desk_new sink_old sink_new =
-    IsSomeAnd said (λ command. UnreadInput command desk_old desk_new)
+-- the files after these stores, in order
+abbrev pub all_stored : List (List ℕ × List ℕ) → Files → Files
+all_stored stores files = fold (λ held store. stored store.0 store.1 held) files stores
+
+-- the whole outcome stands: its status, its text after what was written, and its stores
+pub record Delivered (outcome : Outcome) (status : Status)
+    (desk_old desk_new : DeskState) (sink_old sink_new : SinkState) : Type 0 where
+  pub status_is : outcome.status ≡ status
+  pub text : Wrote outcome.text sink_old sink_new
+  pub stores : desk_new.holds ≡ option_map (all_stored outcome.stores) desk_old.holds
+
+-- no count of faults rose
+pub record NoFault (desk_old desk_new : DeskState) (sink_old sink_new : SinkState) : Type 0 where
+  pub loads : Rose desk_old.load_faults desk_new.load_faults → ⊥
+  pub stores : Rose desk_old.store_faults desk_new.store_faults → ⊥
+  pub puts : Rose sink_old.faults sink_new.faults → ⊥
+
+-- the words are a request, and where the desk tells what that means, its whole outcome stands with
+-- this status
+abbrev pub Stands : Status → Option Request → DeskState → DeskState → SinkState → SinkState → Type 0
+Stands status request desk_old desk_new sink_old sink_new = IsSomeAnd request (λ _.
+    Known desk_old (λ files.
+    Delivered (outcome_of request files) status desk_old desk_new sink_old sink_new))
+
+-- ---- causes
+
+-- the cause of a status, where the words are this request or none
+abbrev pub Cause : Status → Option Request → DeskState → DeskState → SinkState → SinkState → Type 0
+Cause Done request desk_old desk_new sink_old sink_new =
+    Stands Done request desk_old desk_new sink_old sink_new
+Cause SomeRefused request desk_old desk_new sink_old sink_new =
+    Stands SomeRefused request desk_old desk_new sink_old sink_new
+Cause Words request desk_old desk_new sink_old sink_new =
+    (request ≡ None) × Wrote refused_words sink_old sink_new × (desk_new ≡ desk_old)
+Cause Input request desk_old desk_new sink_old sink_new =
+    Stands Input request desk_old desk_new sink_old sink_new
+    × ((fault : InputFault) × Wrote (fault_line fault) sink_old sink_new
+    × Took fault desk_old desk_new)
+Cause ReadFault request desk_old desk_new sink_old sink_new =
+    IsSomeAnd request (λ request. UnreadInput request desk_old desk_new)
     × (sink_new ≡ sink_old) × (desk_new.holds ≡ desk_old.holds)
-Cause WriteFault said desk_old desk_new sink_old sink_new = Rose sink_old.faults sink_new.faults
-Cause NoMemory said desk_old desk_new sink_old sink_new = Unit {0}
+Cause WriteFault request desk_old desk_new sink_old sink_new =
+    Rose sink_old.faults sink_new.faults
+Cause NoMemory None desk_old desk_new sink_old sink_new =
+    Rose sink_old.shortages sink_new.shortages
+Cause NoMemory (Some request) desk_old desk_new sink_old sink_new = Unit {0}
+
+-- ---- how a call ended, whatever happened
+
+-- the status of a call; where a put failed or found no memory, that decides
+abbrev pub status_of : Result Status SinkError → Status
+status_of (Ok status) = status
+status_of (Err sinks.Failed) = WriteFault
+status_of (Err sinks.NoMemory) = NoMemory
+
+-- a call for this request, or for words that are none, ended with this status
+pub record Ended (status : Status) (request : Option Request)
+    (desk_old desk_new : DeskState) (sink_old sink_new : SinkState) : Type 0 where
+  -- the status has its cause
+  pub cause : Cause status request desk_old desk_new sink_old sink_new
+  -- what was written begins the text of the outcome
+  pub begun : Known desk_old (λ files.
+      WrotePrefix (outcome_of request files).text sink_old sink_new)
+  -- nothing was stored
+  pub kept : desk_new.holds ≡ desk_old.holds

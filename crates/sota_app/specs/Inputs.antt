@@ -1,36 +1,38 @@
 -- How the reading of inputs ended.
-use Rattle.std.specs.Prelude.{◌≡◌, ◌≤◌, List, length, Result, Ok, Err}
+use Rattle.std.specs.Prelude.{◌≡◌, ◌≤◌, List, [], ◌∷◌, length, Result, Ok}
+use Rattle.std.specs.Prelude.{Err}
+use Rattle.sota_units.specs.Limits.{TEXT_LIMIT}
 use Rattle.sota_edge.specs.Desk.{Files, DeskState}
 use Rattle.sota_edge.specs.Sink.{SinkState}
-use Rattle.sota_app.specs.Outcome.{Outcome, refused_input, Work}
-use Rattle.sota_app.specs.Refusals.{input_limit, refusal_line}
-use Rattle.sota_app.specs.Script.{Saying, one_ask, script_sayings}
-use Rattle.sota_app.specs.Replies.{Replied}
-use Rattle.sota_app.specs.Causes.{Told, Took, IsOfText}
-use Rattle.sota_app.specs.declared.inputs.Lines.{Lines}
-use Rattle.sota_app.specs.declared.inputs.Lines.TheVariants as lines
+use Rattle.sota_edge.specs.declared.sink.SinkError.{SinkError}
+use Rattle.sota_app.specs.Replies.{Written}
+use Rattle.sota_app.specs.InputFaults.{fault_line}
+use Rattle.sota_app.specs.Outcome.{Work}
+use Rattle.sota_app.specs.Script.{ScriptLine, ask_on, script_lines}
+use Rattle.sota_app.specs.Causes.{Known, Took, IsOfText}
+use Rattle.sota_app.specs.declared.inputs.Script.{Script}
+use Rattle.sota_app.specs.declared.inputs.Script.TheVariants as scripts
 use Rattle.sota_app.specs.declared.inputs.Task.{Task}
-use Rattle.sota_app.specs.declared.refusal.Input.TheVariants as inputs
-use Rattle.sota_app.specs.declared.inputs.InputEnd.{InputEnd}
-use Rattle.sota_app.specs.declared.inputs.InputEnd.TheVariants as ends
+use Rattle.sota_app.specs.declared.input.NoInput.{NoInput}
+use Rattle.sota_app.specs.declared.input.NoInput.TheVariants as ends
 use Rattle.sota_app.specs.declared.status.Status.{Status}
 use Rattle.sota_app.specs.declared.status.Status.TheVariants.{Input, ReadFault, NoMemory}
 
--- what the lines of a task say, and of which network
-abbrev pub lines_sayings : Lines → List Saying
-lines_sayings (lines.Ask ask) = one_ask ask
-lines_sayings (lines.Script script) = script_sayings script.items
+-- the lines of a task, and their network
+abbrev pub lines_of : Script → List ScriptLine
+lines_of (scripts.Ask ask) = ask_on 1 ask ∷ []
+lines_of (scripts.Text script) = script_lines script.items
 
 abbrev pub task_work : Task → Work
-task_work task = record { net = task.network; sayings = lines_sayings task.lines }
+task_work task = record { net = task.network; lines = lines_of task.script }
 
 -- a script is within its limit
-abbrev pub AreWithin : Lines → Type 0
-AreWithin (lines.Ask ask) = Unit {0}
-AreWithin (lines.Script script) = length script.items ≤ input_limit inputs.Script
+abbrev pub IsShort : Script → Type 0
+IsShort (scripts.Ask ask) = Unit {0}
+IsShort (scripts.Text script) = length script.items ≤ TEXT_LIMIT
 
--- nothing but what was taken changed in the desk
-pub record Calm (old new : DeskState) : Type 0 where
+-- nothing changed in the desk but what was taken
+pub record OnlyTook (old new : DeskState) : Type 0 where
   pub holds : new.holds ≡ old.holds
   pub fault_name : new.fault_name ≡ old.fault_name
   pub loads : new.load_faults ≡ old.load_faults
@@ -38,26 +40,27 @@ pub record Calm (old new : DeskState) : Type 0 where
   pub taken : old.taken ≤ new.taken
 
 -- a text was read as what it means
-abbrev pub TextRead : {A : Type 0} → Result A InputEnd → Result A Outcome → Type 0
-TextRead (Ok value) said = said ≡ Ok value
-TextRead (Err (ends.Refused refusal)) said = (said ≡ Err (refused_input refusal)) × IsOfText refusal
-TextRead (Err ends.Unread) said = ⊥
-TextRead (Err ends.NoMemory) said = Unit {0}
+abbrev pub TextAnswers : {A : Type 0} → Result A NoInput → Result A NoInput → Type 0
+TextAnswers (Ok value) meaning = meaning ≡ Ok value
+TextAnswers (Err (ends.Fault fault)) meaning = (meaning ≡ Err (ends.Fault fault)) × IsOfText fault
+TextAnswers (Err ends.Unread) meaning = ⊥
+TextAnswers (Err ends.NoMemory) meaning = Unit {0}
 
--- What was read is what the files mean, where that is told. An input that could not be read was missed so.
-abbrev pub InputRead : {T A : Type 0} → (T → A) → Result T InputEnd → (Files → Result A Outcome)
+-- What was read is what the files mean, where the desk tells what it holds. An input that could not
+-- be read was missed so.
+abbrev pub InputAnswers : {T A : Type 0} → (T → A) → Result T NoInput → (Files → Result A NoInput)
     → (DeskState → DeskState → Type 0) → DeskState → DeskState → Type 0
-InputRead view (Ok value) said Missed old new =
-    Calm old new × Told old (λ files. said files ≡ Ok (view value))
-InputRead view (Err (ends.Refused refusal)) said Missed old new =
-    Calm old new × Took refusal old new
-    × Told old (λ files. said files ≡ Err (refused_input refusal))
-InputRead view (Err ends.Unread) said Missed old new = Missed old new × (new.holds ≡ old.holds)
-InputRead view (Err ends.NoMemory) said Missed old new = new.holds ≡ old.holds
+InputAnswers view (Ok value) meaning Missed old new =
+    OnlyTook old new × Known old (λ files. meaning files ≡ Ok (view value))
+InputAnswers view (Err (ends.Fault fault)) meaning Missed old new =
+    OnlyTook old new × Took fault old new
+    × Known old (λ files. meaning files ≡ Err (ends.Fault fault))
+InputAnswers view (Err ends.Unread) meaning Missed old new =
+    Missed old new × (new.holds ≡ old.holds)
+InputAnswers view (Err ends.NoMemory) meaning Missed old new = new.holds ≡ old.holds
 
--- an input that is refused is told, and one that could not be read leaves the sink as it is
-abbrev pub EndReplied : InputEnd → Status → SinkState → SinkState → Type 0
-EndReplied (ends.Refused refusal) result old new =
-    Replied Input result (refusal_line refusal) old new
-EndReplied ends.Unread result old new = (result ≡ ReadFault) × (new ≡ old)
-EndReplied ends.NoMemory result old new = (result ≡ NoMemory) × (new ≡ old)
+-- the line of an input that is not accepted was written; of one that could not be read nothing was
+abbrev pub NoInputWritten : NoInput → Result Status SinkError → SinkState → SinkState → Type 0
+NoInputWritten (ends.Fault fault) result old new = Written Input result (fault_line fault) old new
+NoInputWritten ends.Unread result old new = (result ≡ Ok ReadFault) × (new ≡ old)
+NoInputWritten ends.NoMemory result old new = (result ≡ Ok NoMemory) × (new ≡ old)

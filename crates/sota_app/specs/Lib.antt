@@ -1,10 +1,11 @@
 pub mod Status
-pub mod Said
+pub mod Requests
 pub mod Words
 pub mod Replies
 pub mod Script
-pub mod Refusals
+pub mod InputFaults
 pub mod Outcome
 pub mod Causes
 pub mod Inputs
 pub mod Meaning
+pub mod Laws

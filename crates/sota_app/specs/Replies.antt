@@ -1,26 +1,49 @@
--- Replies and their lines.
-use Rattle.std.specs.Prelude.{◌≡◌, ◌⊎◌, ℕ, List, [], ◌++◌, Bool, true, false, Option, Some, None, codes, decimal}
+-- Replies and their lines: words and numbers with one space between, ended by LF.
+use Rattle.std.specs.Prelude.{◌≡◌, ◌≤◌, ℕ, List, [], ◌++◌, Bool, true, false, flat_map}
+use Rattle.std.specs.Prelude.{Option, Some, None, Result, Ok, Err, if◌then◌else◌, codes, decimal}
+use Rattle.std.specs.List.{list_any}
 use Rattle.sota_units.specs.GrainText.{grain_spelling}
 use Rattle.sota_edge.specs.Counts.{Rose}
 use Rattle.sota_edge.specs.Sink.{SinkState, Wrote, WrotePrefix}
-use Rattle.sota_hist.specs.declared.fault.HistFault.{HistFault}
-use Rattle.sota_hist.specs.declared.fault.HistFault.TheVariants as times
-use Rattle.sota_script.specs.declared.fault.LineFault.{LineFault}
-use Rattle.sota_script.specs.declared.fault.LineFault.TheVariants as lines
+use Rattle.sota_edge.specs.declared.sink.SinkError.{SinkError}
+use Rattle.sota_edge.specs.declared.sink.SinkError.TheVariants as sinks
+use Rattle.sota_hist.specs.Build as times
+use Rattle.sota_hist.specs.Words as time_words
+use Rattle.sota_script.specs.Words as lines
 use Rattle.sota_session.specs.declared.ask.Ask.{Ask}
 use Rattle.sota_session.specs.declared.ask.Answer.{Answer}
-use Rattle.sota_session.specs.declared.ask.AskFault.{AskFault}
-use Rattle.sota_session.specs.declared.ask.AskFault.TheVariants as asks
-use Rattle.sota_session.specs.declared.session.EditFault.{EditFault}
-use Rattle.sota_session.specs.declared.session.EditFault.TheVariants as edits
+use Rattle.sota_session.specs.Answers as asks
+use Rattle.sota_session.specs.Words.{ask_word, ask_count, edit_word}
+use Rattle.sota_session.specs.declared.edit.EditFault.TheVariants as edits
 use Rattle.sota_app.specs.declared.reply.Reply.{Reply}
 use Rattle.sota_app.specs.declared.reply.Reply.TheVariants as replies
-use Rattle.sota_app.specs.declared.reply.Cause.{Cause}
-use Rattle.sota_app.specs.declared.reply.Cause.TheVariants as causes
+use Rattle.sota_app.specs.declared.reply.Refusal.{Refusal}
+use Rattle.sota_app.specs.declared.reply.Refusal.TheVariants as refusals
 use Rattle.sota_app.specs.declared.status.Status.{Status}
-use Rattle.sota_app.specs.declared.status.Status.TheVariants.{WriteFault, NoMemory}
+use Rattle.sota_app.specs.declared.status.Status.TheVariants.{Done, SomeRefused}
 
--- ---- lines: words and numbers with one space between, ended by LF
+-- ---- refusals of lines
+
+-- want of memory says nothing of a line, so that no line is refused for it
+abbrev pub is_shortage : Refusal → Bool
+is_shortage (refusals.Line fault) = lines.is_shortage fault
+is_shortage (refusals.Time fault) = times.is_shortage fault
+is_shortage (refusals.Edit edits.NoMemory) = true
+is_shortage (refusals.Edit fault) = false
+is_shortage (refusals.Ask fault) = asks.is_shortage fault
+
+abbrev pub refusal_word : Refusal → List ℕ
+refusal_word (refusals.Line fault) = lines.fault_word fault
+refusal_word (refusals.Time fault) = time_words.fault_word fault
+refusal_word (refusals.Edit fault) = edit_word fault
+refusal_word (refusals.Ask fault) = ask_word fault
+
+-- the count that exceeds a limit of size
+abbrev pub refusal_count : Refusal → Option ℕ
+refusal_count (refusals.Ask fault) = ask_count fault
+refusal_count _ = None
+
+-- ---- one reply
 
 abbrev pub arc_text : Option ℕ → List ℕ
 arc_text None = codes "-"
@@ -29,75 +52,66 @@ arc_text (Some arc) = decimal arc
 -- 'answer O D T LOWER UPPER ARC'
 abbrev pub answer_line : Ask → Answer → List ℕ
 answer_line ask answer =
-    codes "answer " ++ decimal ask.origin ++ codes " " ++ decimal ask.dest ++ codes " " ++ decimal ask.budget ++ codes " "
-    ++ grain_spelling answer.lower ++ codes " " ++ grain_spelling answer.upper ++ codes " " ++ arc_text answer.next ++ codes "\n"
+    codes "answer " ++ decimal ask.origin ++ codes " " ++ decimal ask.dest ++ codes " "
+    ++ decimal ask.budget ++ codes " " ++ grain_spelling answer.lower ++ codes " "
+    ++ grain_spelling answer.upper ++ codes " " ++ arc_text answer.next ++ codes "\n"
 
--- 'edited ARC'
+-- 'edited ARC' and 'closed ARC'
 abbrev pub edited_line : ℕ → List ℕ
 edited_line arc = codes "edited " ++ decimal arc ++ codes "\n"
 
--- the names of causes; want of memory is no fault of a line, so that no line has it
-abbrev pub line_cause : LineFault → List ℕ
-line_cause lines.Word = codes "Word"
-line_cause lines.Count = codes "Count"
-line_cause lines.Number = codes "Number"
-line_cause lines.Name = codes "Name"
-line_cause lines.NoMemory = codes "NoMemory"
-
-abbrev pub time_cause : HistFault → List ℕ
-time_cause (times.ZeroTick place) = codes "ZeroTick"
-time_cause (times.RepeatedTick tick) = codes "RepeatedTick"
-time_cause (times.Sum sum) = codes "Sum"
-time_cause times.NoMemory = codes "NoMemory"
-
-abbrev pub edit_cause : EditFault → List ℕ
-edit_cause edits.NoArc = codes "NoArc"
-edit_cause edits.NoMemory = codes "NoMemory"
-
-abbrev pub ask_cause : AskFault → List ℕ
-ask_cause asks.NoOrigin = codes "NoOrigin"
-ask_cause asks.NoDest = codes "NoDest"
-ask_cause asks.Budget = codes "Budget"
-ask_cause (asks.TableCells count) = codes "TableCells"
-ask_cause (asks.BroadCells count) = codes "BroadCells"
-ask_cause asks.NoMemory = codes "NoMemory"
-
-abbrev pub cause_word : Cause → List ℕ
-cause_word (causes.Line fault) = line_cause fault
-cause_word (causes.Time fault) = time_cause fault
-cause_word (causes.Edit fault) = edit_cause fault
-cause_word (causes.Ask fault) = ask_cause fault
-
--- the two limits of size tell the count that exceeds them
-abbrev pub cause_count : Cause → Option ℕ
-cause_count (causes.Ask (asks.TableCells count)) = Some count
-cause_count (causes.Ask (asks.BroadCells count)) = Some count
-cause_count _ = None
+abbrev pub closed_line : ℕ → List ℕ
+closed_line arc = codes "closed " ++ decimal arc ++ codes "\n"
 
 abbrev pub count_text : Option ℕ → List ℕ
 count_text None = []
 count_text (Some count) = codes " " ++ decimal count
 
 -- 'refused LINE CAUSE', with the count of a cause that has one
-abbrev pub refused_line : ℕ → Cause → List ℕ
-refused_line line cause =
-    codes "refused " ++ decimal line ++ codes " " ++ cause_word cause ++ count_text (cause_count cause) ++ codes "\n"
+abbrev pub refused_line : ℕ → Refusal → List ℕ
+refused_line line refusal =
+    codes "refused " ++ decimal line ++ codes " " ++ refusal_word refusal
+    ++ count_text (refusal_count refusal) ++ codes "\n"
 
 abbrev pub reply_line : Reply → List ℕ
 reply_line (replies.Answered ask answer) = answer_line ask answer
 reply_line (replies.Edited arc) = edited_line arc
-reply_line (replies.Refused line cause) = refused_line line cause
+reply_line (replies.Closed arc) = closed_line arc
+reply_line (replies.Refused line refusal) = refused_line line refusal
 
 -- a reply that begins with 'refused'
 abbrev pub is_refusal : Reply → Bool
-is_refusal (replies.Answered ask answer) = false
-is_refusal (replies.Edited arc) = false
-is_refusal (replies.Refused line cause) = true
+is_refusal (replies.Refused line refusal) = true
+is_refusal _ = false
+
+-- ---- several replies
+
+-- their lines one after the other
+abbrev pub replies_text : List Reply → List ℕ
+replies_text replies = flat_map reply_line replies
+
+abbrev pub some_refused : List Reply → Bool
+some_refused replies = list_any is_refusal replies
+
+-- the status of lines, by whether one is refused
+abbrev pub lines_status : Bool → Status
+lines_status refused = if refused then SomeRefused else Done
+
+abbrev pub replies_status : List Reply → Status
+replies_status replies = lines_status (some_refused replies)
 
 -- ---- writing
 
--- how the writing of a text ended that comes with a status: all was written, or a put failed, or memory was wanted
-abbrev pub Replied : Status → Status → List ℕ → SinkState → SinkState → Type 0
-Replied status result text old new =
-    ((result ≡ status) × Wrote text old new)
-    ⊎ (((result ≡ WriteFault) × Rose old.faults new.faults × WrotePrefix text old new) ⊎ ((result ≡ NoMemory) × WrotePrefix text old new))
+-- how the writing of a text ended, and what is answered with it: all of it was written, or a put
+-- failed, or memory was wanted
+abbrev pub Written : {A : Type 0} → A → Result A SinkError → List ℕ → SinkState → SinkState → Type 0
+Written value (Ok answer) text old new =
+    (answer ≡ value) × Wrote text old new × (old.faults ≤ new.faults)
+Written value (Err sinks.Failed) text old new =
+    Rose old.faults new.faults × WrotePrefix text old new
+Written value (Err sinks.NoMemory) text old new = WrotePrefix text old new
+
+-- the same of replies and their status
+abbrev pub RepliesWritten : Result Status SinkError → List Reply → SinkState → SinkState → Type 0
+RepliesWritten result replies old new =
+    Written (replies_status replies) result (replies_text replies) old new

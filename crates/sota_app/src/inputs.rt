@@ -1,18 +1,16 @@
-// The inputs of a command, each loaded and read before the next.
+// The inputs of a request, each loaded and read before the next.
 ghost use Rattle.std.specs.Prelude.{◌≡◌, ◌≤◌, length, IfOk};
-ghost use Rattle.sota_network.specs.Network.{IsNet};
 ghost use Rattle.sota_dimacs.specs.Graph.{IsGraph};
-ghost use Rattle.sota_histcsv.specs.Certain.{certain_net};
-ghost use Rattle.sota_app.specs.Refusals.{input_limit};
-ghost use Rattle.sota_app.specs.Outcome.{or_refused, loaded, read_graph, graph_of};
-ghost use Rattle.sota_app.specs.Outcome.{read_hists, with_hists, network_of, work_of};
+ghost use Rattle.sota_units.specs.Limits.{TEXT_LIMIT};
+ghost use Rattle.sota_app.specs.InputFaults.{input_limit};
+ghost use Rattle.sota_app.specs.Outcome.{input_bytes, read_graph, graph_of};
+ghost use Rattle.sota_app.specs.Outcome.{certain_hists, read_hists, with_hists, network_of};
+ghost use Rattle.sota_app.specs.Outcome.{work_of};
 ghost use Rattle.sota_app.specs.Causes.{Unread, UnreadHists, UnreadNetwork, UnreadInput};
-ghost use Rattle.sota_app.specs.Inputs.{TextRead, InputRead, task_work, AreWithin};
-ghost use Rattle.sota_app.specs.declared.refusal.Refusal.TheVariants.{Hists};
-ghost use Rattle.sota_app.specs.declared.words.Command.TheVariants.{Ask, Run};
+ghost use Rattle.sota_app.specs.Inputs.{TextAnswers, InputAnswers, task_work, IsShort};
 
-use crate::refusal::{Input, Refusal};
-use crate::words::{AskWords, Command, RunWords};
+use crate::input::{Input, InputFault, NoInput};
+use crate::words::Request;
 use sota_dimacs::{GraphFault, RawGraph, read_graph};
 use sota_edge::{Desk, LoadError};
 use sota_histcsv::{HistFileFault, certain_network, read_histograms};
@@ -20,31 +18,20 @@ use sota_network::Network;
 use sota_script::Ask3;
 use std::alloc::Global;
 
-/// A network, and what is said of it.
+/// A network, and the lines that are to be played on it.
 #[derive(Drop)]
 pub struct Task {
     pub network: Network,
-    pub lines: Lines,
+    pub script: Script,
 }
 
-/// What is said, line by line.
+/// The lines of a task.
 #[derive(Drop)]
-pub enum Lines {
-    /// One ask.
+pub enum Script {
+    /// One line with this ask.
     Ask(Ask3),
-    /// The text of a script.
-    Script(Vec<u8>),
-}
-
-/// Why there are no inputs.
-#[derive(Clone, Copy, Debug, PartialEq, Eq)]
-pub enum InputEnd {
-    /// One is not accepted.
-    Refused(Refusal),
-    /// One could not be loaded, or is not there.
-    Unread,
-    /// Memory was wanted.
-    NoMemory,
+    /// The lines of this text.
+    Text(Vec<u8>),
 }
 
 /// The bytes of the input of this name, at most its limit.
@@ -53,36 +40,37 @@ fn load_input<D: Desk>(
     input: Input,
     name: &str,
     desk: &mut D,
-) -> Result<Vec<u8>, InputEnd>
-    ensures read { InputRead (λ bytes. bytes.items) result (λ files. loaded input (files name.now))
+) -> Result<Vec<u8>, NoInput>
+    ensures read { InputAnswers (λ bytes. bytes.items) result
+        (λ files. input_bytes input (files name.now))
         (Unread name.now) (D.state desk.old) (D.state desk.new) }
     ensures within { IfOk result (λ bytes. length bytes.items ≤ input_limit input) }
 {
     match desk.load(alloc, name, input.limit()) {
         Ok(bytes) => Ok(bytes),
-        Err(LoadError::TooLong) => Err(InputEnd::Refused(Refusal::TooLong(input))),
-        Err(LoadError::Missing) => Err(InputEnd::Unread),
-        Err(LoadError::Failed) => Err(InputEnd::Unread),
-        Err(LoadError::NoMemory) => Err(InputEnd::NoMemory),
+        Err(LoadError::TooLong) => Err(NoInput::Fault(InputFault::TooLong(input))),
+        Err(LoadError::Missing) => Err(NoInput::Unread),
+        Err(LoadError::Failed) => Err(NoInput::Unread),
+        Err(LoadError::NoMemory) => Err(NoInput::NoMemory),
     }
 }
 
 /// The graph that a text means.
-fn parse_graph(alloc: Global, bytes: &[u8]) -> Result<RawGraph, InputEnd>
-    requires { length bytes.now ≤ 67108864 }
-    ensures read { TextRead result (read_graph bytes.now) }
+fn parse_graph(alloc: Global, bytes: &[u8]) -> Result<RawGraph, NoInput>
+    requires { length bytes.now ≤ TEXT_LIMIT }
+    ensures read { TextAnswers result (read_graph bytes.now) }
     ensures valid { IfOk result (λ graph. IsGraph graph) }
 {
     match read_graph(alloc, bytes) {
         Ok(graph) => Ok(graph),
-        Err(GraphFault::NoMemory) => Err(InputEnd::NoMemory),
-        Err(fault) => Err(InputEnd::Refused(Refusal::Graph(fault))),
+        Err(GraphFault::NoMemory) => Err(NoInput::NoMemory),
+        Err(fault) => Err(NoInput::Fault(InputFault::Graph(fault))),
     }
 }
 
 /// The graph that the file of this name holds.
-fn load_graph<D: Desk>(alloc: Global, name: &str, desk: &mut D) -> Result<RawGraph, InputEnd>
-    ensures read { InputRead (λ graph. graph) result (graph_of name.now) (Unread name.now)
+fn load_graph<D: Desk>(alloc: Global, name: &str, desk: &mut D) -> Result<RawGraph, NoInput>
+    ensures read { InputAnswers (λ graph. graph) result (graph_of name.now) (Unread name.now)
         (D.state desk.old) (D.state desk.new) }
     ensures valid { IfOk result (λ graph. IsGraph graph) }
 {
@@ -91,27 +79,27 @@ fn load_graph<D: Desk>(alloc: Global, name: &str, desk: &mut D) -> Result<RawGra
 }
 
 /// The network in which each arc takes its weight.
-fn take_weights(alloc: Global, graph: RawGraph) -> Result<Network, InputEnd>
+fn take_weights(alloc: Global, graph: RawGraph) -> Result<Network, NoInput>
     requires { IsGraph graph }
-    ensures { TextRead result (or_refused Hists (certain_net graph)) }
+    ensures { TextAnswers result (certain_hists graph) }
 {
     match certain_network(alloc, graph) {
         Ok(network) => Ok(network),
-        Err(HistFileFault::NoMemory) => Err(InputEnd::NoMemory),
-        Err(fault) => Err(InputEnd::Refused(Refusal::Hists(fault))),
+        Err(HistFileFault::NoMemory) => Err(NoInput::NoMemory),
+        Err(fault) => Err(NoInput::Fault(InputFault::Hists(fault))),
     }
 }
 
 /// The network of a graph and of the text of its histograms.
-fn parse_hists(alloc: Global, bytes: &[u8], graph: RawGraph) -> Result<Network, InputEnd>
-    requires size { length bytes.now ≤ 67108864 }
+fn parse_hists(alloc: Global, bytes: &[u8], graph: RawGraph) -> Result<Network, NoInput>
+    requires size { length bytes.now ≤ TEXT_LIMIT }
     requires graph { IsGraph graph }
-    ensures { TextRead result (read_hists graph bytes.now) }
+    ensures { TextAnswers result (read_hists graph bytes.now) }
 {
     match read_histograms(alloc, bytes, graph) {
         Ok(network) => Ok(network),
-        Err(HistFileFault::NoMemory) => Err(InputEnd::NoMemory),
-        Err(fault) => Err(InputEnd::Refused(Refusal::Hists(fault))),
+        Err(HistFileFault::NoMemory) => Err(NoInput::NoMemory),
+        Err(fault) => Err(NoInput::Fault(InputFault::Hists(fault))),
     }
 }
 
@@ -121,9 +109,9 @@ fn load_hists<D: Desk>(
     name: &str,
     graph: RawGraph,
     desk: &mut D,
-) -> Result<Network, InputEnd>
+) -> Result<Network, NoInput>
     requires { IsGraph graph }
-    ensures { InputRead (λ network. network) result (λ files. with_hists name.now files graph)
+    ensures { InputAnswers (λ network. network) result (λ files. with_hists name.now files graph)
         (UnreadHists name.now) (D.state desk.old) (D.state desk.new) }
 {
     if name == "-" {
@@ -134,68 +122,39 @@ fn load_hists<D: Desk>(
 }
 
 /// The network of the graph in the file of this name and of a word for its histograms.
-fn read_network<D: Desk>(
+fn load_network<D: Desk>(
     alloc: Global,
     graph: &str,
     hists: &str,
     desk: &mut D,
-) -> Result<Network, InputEnd>
-    ensures read { InputRead (λ network. network) result (network_of graph.now hists.now)
+) -> Result<Network, NoInput>
+    ensures { InputAnswers (λ network. network) result (network_of graph.now hists.now)
         (UnreadNetwork graph.now hists.now) (D.state desk.old) (D.state desk.new) }
-    ensures valid { IfOk result (λ network. IsNet network) }
 {
     let roads = load_graph(alloc, graph, desk)?;
-    let network = load_hists(alloc, hists, roads, desk)?;
-    network.is_valid();
-    Ok(network)
+    load_hists(alloc, hists, roads, desk)
 }
 
-/// What `ask` says of the network of its files.
-fn read_ask_task<D: Desk>(
+/// The network of the files that a request names, and its lines.
+pub fn load_task<D: Desk>(
     alloc: Global,
-    said: &AskWords<'_>,
+    request: &Request<'_>,
     desk: &mut D,
-) -> Result<Task, InputEnd>
-    ensures read { InputRead task_work result (work_of (Ask said.now)) (UnreadInput (Ask said.now))
+) -> Result<Task, NoInput>
+    ensures read { InputAnswers task_work result (work_of request.now) (UnreadInput request.now)
         (D.state desk.old) (D.state desk.new) }
-    ensures valid { IfOk result (λ task. IsNet task.network) }
-    ensures within { IfOk result (λ task. AreWithin task.lines) }
+    ensures short { IfOk result (λ task. IsShort task.script) }
 {
-    let network = read_network(alloc, said.graph, said.hists, desk)?;
-    let lines = Lines::Ask(said.ask);
-    Ok(Task { network, lines })
-}
-
-/// What the script of `run` says of the network of its files.
-fn read_run_task<D: Desk>(
-    alloc: Global,
-    said: &RunWords<'_>,
-    desk: &mut D,
-) -> Result<Task, InputEnd>
-    ensures read { InputRead task_work result (work_of (Run said.now)) (UnreadInput (Run said.now))
-        (D.state desk.old) (D.state desk.new) }
-    ensures valid { IfOk result (λ task. IsNet task.network) }
-    ensures within { IfOk result (λ task. AreWithin task.lines) }
-{
-    let network = read_network(alloc, said.graph, said.hists, desk)?;
-    let script = load_input(alloc, Input::Script, said.script, desk)?;
-    let lines = Lines::Script(script);
-    Ok(Task { network, lines })
-}
-
-/// What a command says of the network of its files.
-pub fn read_task<D: Desk>(
-    alloc: Global,
-    command: &Command<'_>,
-    desk: &mut D,
-) -> Result<Task, InputEnd>
-    ensures read { InputRead task_work result (work_of command.now) (UnreadInput command.now)
-        (D.state desk.old) (D.state desk.new) }
-    ensures valid { IfOk result (λ task. IsNet task.network) }
-    ensures within { IfOk result (λ task. AreWithin task.lines) }
-{
-    match command {
-        Command::Ask(said) => read_ask_task(alloc, said, desk),
-        Command::Run(said) => read_run_task(alloc, said, desk),
+    match request {
+        Request::Ask(words) => {
+            let network = load_network(alloc, words.graph, words.hists, desk)?;
+            let script = Script::Ask(words.ask);
+            Ok(Task { network, script })
+        }
+        Request::Run(words) => {
+            let network = load_network(alloc, words.graph, words.hists, desk)?;
+            let script = Script::Text(load_input(alloc, Input::Script, words.script, desk)?);
+            Ok(Task { network, script })
+        }
     }
 }

@@ -1,10 +1,11 @@
 //! The top call: it reads the words and the files that they name, and writes the replies.
 #![tactic(auto)]
 
+mod input;
 mod inputs;
-mod refusal;
+pub mod laws;
+mod player;
 mod reply;
-mod script;
 mod status;
 mod top;
 mod words;
@@ -12,7 +13,5 @@ mod words;
 pub use status::Status;
 pub use top::run;
 
-#[cfg(test)]
-mod script_tests;
 #[cfg(test)]
 mod tests;

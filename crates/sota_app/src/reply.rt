@@ -1,10 +1,10 @@
-// Replies and their lines.
+// Replies to lines, and their texts.
 ghost use Rattle.std.specs.Prelude.{◌≡◌, ◌++◌, IfOk, OnOk};
-ghost use Rattle.sota_app.specs.Replies.{arc_text, count_text, answer_line, edited_line, refused_line, line_cause, time_cause};
-ghost use Rattle.sota_app.specs.Replies.{edit_cause, ask_cause, cause_word, cause_count, reply_line, is_refusal, Replied};
+ghost use Rattle.sota_app.specs.Replies.{is_shortage, refusal_word, refusal_count};
+ghost use Rattle.sota_app.specs.Replies.{arc_text, count_text, answer_line, edited_line};
+ghost use Rattle.sota_app.specs.Replies.{closed_line};
+ghost use Rattle.sota_app.specs.Replies.{refused_line, reply_line, is_refusal};
 
-use crate::status::Status;
-use sota_edge::{Sink, SinkError, put_all};
 use sota_hist::HistFault;
 use sota_script::LineFault;
 use sota_session::{Answer, Ask, AskFault, EditFault};
@@ -12,99 +12,105 @@ use sota_text::TextOut;
 use sota_units::{ArcId, NoMemory, grain_text};
 use std::alloc::Global;
 
-/// What is said to a line of a script.
+/// The reply to a line.
 #[derive(Clone, Copy, Debug, PartialEq, Eq)]
 pub enum Reply {
     /// An ask was answered.
     Answered(Ask, Answer),
     /// The time of this arc was replaced.
     Edited(ArcId),
+    /// This arc was closed.
+    Closed(ArcId),
     /// The line of this number was refused.
-    Refused(u32, Cause),
+    Refused(u32, Refusal),
 }
 
-/// Why a line of a script is refused.
+/// Why a line is refused.
 #[derive(Clone, Copy, Debug, PartialEq, Eq)]
-pub enum Cause {
+pub enum Refusal {
     /// The line is no command.
     Line(LineFault),
     /// The pairs of an edit give no histogram.
     Time(HistFault),
-    /// The edit names no arc.
+    /// The arc of an edit is not there.
     Edit(EditFault),
-    /// The ask is refused.
+    /// The ask has this fault.
     Ask(AskFault),
 }
 
-/// The name of a fault of a line.
-fn line_word(fault: LineFault) -> &'static [u8]
-    ensures { result.now ≡ line_cause fault }
-{
-    match fault {
-        LineFault::Word => b"Word",
-        LineFault::Count => b"Count",
-        LineFault::Number => b"Number",
-        LineFault::Name => b"Name",
-        LineFault::NoMemory => b"NoMemory",
+impl From<LineFault> for Refusal {
+    ghost use Rattle.sota_app.specs.declared.reply.Refusal.TheVariants.{Line as OfLine};
+
+    ghost from_gives = { λ fault refusal. refusal ≡ OfLine fault };
+
+    fn from(fault: LineFault) -> Self {
+        Refusal::Line(fault)
     }
 }
 
-/// The name of a fault of pairs.
-fn time_word(fault: &HistFault) -> &'static [u8]
-    ensures { result.now ≡ time_cause fault.now }
-{
-    match fault {
-        HistFault::ZeroTick(_) => b"ZeroTick",
-        HistFault::RepeatedTick(_) => b"RepeatedTick",
-        HistFault::Sum(_) => b"Sum",
-        HistFault::NoMemory => b"NoMemory",
+impl From<HistFault> for Refusal {
+    ghost use Rattle.sota_app.specs.declared.reply.Refusal.TheVariants.{Time as OfTime};
+
+    ghost from_gives = { λ fault refusal. refusal ≡ OfTime fault };
+
+    fn from(fault: HistFault) -> Self {
+        Refusal::Time(fault)
     }
 }
 
-/// The name of a fault of an edit.
-fn edit_word(fault: EditFault) -> &'static [u8]
-    ensures { result.now ≡ edit_cause fault }
-{
-    match fault {
-        EditFault::NoArc => b"NoArc",
-        EditFault::NoMemory => b"NoMemory",
+impl From<EditFault> for Refusal {
+    ghost use Rattle.sota_app.specs.declared.reply.Refusal.TheVariants.{Edit as OfEdit};
+
+    ghost from_gives = { λ fault refusal. refusal ≡ OfEdit fault };
+
+    fn from(fault: EditFault) -> Self {
+        Refusal::Edit(fault)
     }
 }
 
-/// The name of a fault of an ask.
-fn ask_word(fault: AskFault) -> &'static [u8]
-    ensures { result.now ≡ ask_cause fault }
-{
-    match fault {
-        AskFault::NoOrigin => b"NoOrigin",
-        AskFault::NoDest => b"NoDest",
-        AskFault::Budget => b"Budget",
-        AskFault::TableCells(_) => b"TableCells",
-        AskFault::BroadCells(_) => b"BroadCells",
-        AskFault::NoMemory => b"NoMemory",
+impl From<AskFault> for Refusal {
+    ghost use Rattle.sota_app.specs.declared.reply.Refusal.TheVariants.{Ask as OfAsk};
+
+    ghost from_gives = { λ fault refusal. refusal ≡ OfAsk fault };
+
+    fn from(fault: AskFault) -> Self {
+        Refusal::Ask(fault)
     }
 }
 
-impl Cause {
+impl Refusal {
+    /// Whether memory was wanted. Such a line is not refused: it gets no reply.
+    pub fn is_shortage(&self) -> bool
+        ensures { result ≡ is_shortage self.now }
+    {
+        matches!(
+            self,
+            Refusal::Line(LineFault::NoMemory)
+                | Refusal::Time(HistFault::NoMemory)
+                | Refusal::Edit(EditFault::NoMemory)
+                | Refusal::Ask(AskFault::NoMemory)
+        )
+    }
+
     /// Its name.
     fn word(&self) -> &'static [u8]
-        ensures { result.now ≡ cause_word self.now }
+        ensures { result.now ≡ refusal_word self.now }
     {
         match self {
-            Cause::Line(fault) => line_word(*fault),
-            Cause::Time(fault) => time_word(fault),
-            Cause::Edit(fault) => edit_word(*fault),
-            Cause::Ask(fault) => ask_word(*fault),
+            Refusal::Line(fault) => fault.word(),
+            Refusal::Time(fault) => fault.word(),
+            Refusal::Edit(fault) => fault.word(),
+            Refusal::Ask(fault) => fault.word(),
         }
     }
 
     /// The count that is written with it, where it is one of the two that have one.
     fn count(&self) -> Option<u64>
-        ensures { result ≡ cause_count self.now }
+        ensures { result ≡ refusal_count self.now }
     {
         match self {
-            Cause::Ask(AskFault::TableCells(count) | AskFault::BroadCells(count)) => Some(*count),
-            _ => None,
+            Refusal::Ask(fault) => fault.count(),
+            Refusal::Line(_) | Refusal::Time(_) | Refusal::Edit(_) => None,
         }
     }
 }
@@ -119,7 +125,7 @@ fn push_arc(text: &mut TextOut, next: Option<ArcId>) -> Result<(), NoMemory>
     }
 }
 
-/// Appends a count behind a space, where there is one.
+/// Appends a count after a space, where there is one.
 fn push_count(text: &mut TextOut, count: Option<u64>) -> Result<(), NoMemory>
     ensures { OnOk result (text.new ≡ text.old ++ count_text count) }
 {
@@ -162,16 +168,27 @@ fn write_edited(alloc: Global, arc: ArcId) -> Result<TextOut, NoMemory>
     Ok(text)
 }
 
+/// The line `closed ARC`.
+fn write_closed(alloc: Global, arc: ArcId) -> Result<TextOut, NoMemory>
+    ensures { IfOk result (λ text. text ≡ closed_line arc) }
+{
+    let mut text = TextOut::new(alloc);
+    text.bytes(b"closed ")?;
+    text.number(u128::from(arc.get()))?;
+    text.bytes(b"\n")?;
+    Ok(text)
+}
+
 /// The line `refused LINE CAUSE`, with the count of a cause that has one.
-fn write_refused(alloc: Global, line: u32, cause: &Cause) -> Result<TextOut, NoMemory>
-    ensures { IfOk result (λ text. text ≡ refused_line line cause.now) }
+fn write_refused(alloc: Global, line: u32, refusal: &Refusal) -> Result<TextOut, NoMemory>
+    ensures { IfOk result (λ text. text ≡ refused_line line refusal.now) }
 {
     let mut text = TextOut::new(alloc);
     text.bytes(b"refused ")?;
     text.number(u128::from(line))?;
     text.bytes(b" ")?;
-    text.bytes(cause.word())?;
-    push_count(&mut text, cause.count())?;
+    text.bytes(refusal.word())?;
+    push_count(&mut text, refusal.count())?;
     text.bytes(b"\n")?;
     Ok(text)
 }
@@ -184,7 +201,8 @@ impl Reply {
         match self {
             Reply::Answered(ask, answer) => write_answer(alloc, ask, answer),
             Reply::Edited(arc) => write_edited(alloc, *arc),
-            Reply::Refused(line, cause) => write_refused(alloc, *line, cause),
+            Reply::Closed(arc) => write_closed(alloc, *arc),
+            Reply::Refused(line, refusal) => write_refused(alloc, *line, refusal),
         }
     }
 
@@ -192,20 +210,6 @@ impl Reply {
     pub fn is_refusal(&self) -> bool
         ensures { result ≡ is_refusal self.now }
     {
-        match self {
-            Reply::Answered(_, _) | Reply::Edited(_) => false,
-            Reply::Refused(_, _) => true,
-        }
-    }
-}
-
-/// Writes a line. The status is the one handed in where all of it was written.
-pub fn write_line<O: Sink>(out: &mut O, line: &[u8], status: Status) -> Status
-    ensures { Replied status result line.now (O.state out.old) (O.state out.new) }
-{
-    match put_all(out, line) {
-        Ok(()) => status,
-        Err(SinkError::Failed) => Status::WriteFault,
-        Err(SinkError::NoMemory) => Status::NoMemory,
+        matches!(self, Reply::Refused(_, _))
     }
 }

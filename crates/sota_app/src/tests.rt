@@ -59,7 +59,17 @@ const NET_A: Texts<'static> = Texts {
     script: b"",
 };
 
-/// Whether the words get this reply and this status over these files, where nothing fails.
+/// A desk with these files, of whose loads those of the numbers fail.
+fn memory_desk(alloc: Global, texts: &Texts<'_>, fails: &[u32]) -> Result<MemoryDesk, Fail> {
+    let mut desk = MemoryDesk::new(alloc, fails.to_vec(alloc)?);
+    desk.insert("g", texts.graph.to_vec(alloc)?)?;
+    desk.insert("h", texts.hists.to_vec(alloc)?)?;
+    desk.insert("s", texts.script.to_vec(alloc)?)?;
+    Ok(desk)
+}
+
+/// Whether the words get this reply and this status over these files, where nothing fails: from
+/// the desk and the sink that cannot fail, and from those that could, by puts of a few bytes.
 fn gets(
     alloc: Global,
     texts: &Texts<'_>,
@@ -73,7 +83,15 @@ fn gets(
     desk.insert("s", texts.script.to_vec(alloc)?)?;
     let mut out = SureSink::new(alloc);
     let answer = run_line(alloc, line, &mut desk, &mut out)?;
-    Ok(answer == status && out.written() == reply)
+    let mut parts = MemorySink::new(alloc, 7, Vec::new(alloc));
+    let again = run_line(
+        alloc,
+        line,
+        &mut memory_desk(alloc, texts, &[])?,
+        &mut parts,
+    )?;
+    let same = again == answer && parts.written() == out.written();
+    Ok(same && answer == status && out.written() == reply)
 }
 
 #[test]
@@ -256,7 +274,27 @@ fn replies_with_histograms(rt: HostRuntime) -> Result<(), Fail> {
     let looped = b"p sp 3 4\na 1 2 1\na 2 3 1\na 1 3 3\na 1 1 1\n".as_slice();
     let zero = b"p sp 2 1\na 1 2 0\n".as_slice();
     let further = b"arc,tick,mass/4\n2,1,2\n2,3,2\n3,3,3\n3,5,1\n1,0,0\n".as_slice();
-    let rows: [(&[u8], &[u8], &str, &[u8]); 14] = [
+    let short = b"arc,tick,mass/4\n1,1,2\n1,2,1".as_slice();
+    let one = b"p sp 2 1\na 1 2 1".as_slice();
+    let rows: [(&[u8], &[u8], &str, &[u8]); 17] = [
+        (
+            TRIANGLE,
+            short,
+            "1 3 3",
+            b"1.000000000000000000 1.000000000000000000 3",
+        ),
+        (
+            TRIANGLE,
+            short,
+            "1 3 2",
+            b"0.500000000000000000 0.500000000000000000 1",
+        ),
+        (
+            one,
+            b"arc,tick,mass/4\n1,5,3",
+            "1 2 9",
+            b"0.750000000000000000 0.750000000000000000 1",
+        ),
         (
             TRIANGLE,
             TIMES,
@@ -380,7 +418,7 @@ fn histograms_that_are_refused(rt: HostRuntime) -> Result<(), Fail> {
             b"arc,tick,mass/4\n1,2,1\n1,2,3",
             b"refused hists RepeatedTick 2\n",
         ),
-        (b"arc,tick,mass/4\n1,1,2\n1,2,1", b"refused hists Sum 1\n"),
+        (b"arc,tick,mass/4\n1,1,2\n1,2,3", b"refused hists Sum 1\n"),
     ];
     for (hists, reply) in rows {
         let texts = Texts { hists, ..NET_A };
@@ -400,19 +438,43 @@ answer 1 3 2 1.000000000000000000 1.000000000000000000 1
 #[test]
 fn scripts(rt: HostRuntime) -> Result<(), Fail> {
     let alloc = rt.alloc();
-    let faulty = b"edit 9 1:4\nedit 2 1:3\nask 1 3 x\nask 1 3 3";
-    let faults = b"refused 1 NoArc
-refused 2 Sum
+    // The masses of an edit may sum to less than the scale; those of a closed arc are none.
+    let lossy = b"edit 9 1:4\nedit 2 1:3\nask 1 3 x\nask 1 3 3";
+    let lossy_replies = b"refused 1 NoArc
+edited 2
 refused 3 Number
-answer 1 3 3 0.750000000000000000 0.750000000000000000 3
+answer 1 3 3 0.750000000000000000 0.750000000000000000 1
 ";
-    let unreadable = b"go\nask 1 3\nedit 2 1-4";
-    let unread = b"refused 1 Word\nrefused 2 Count\nrefused 3 Number\n";
-    let rows: [(&[u8], &[u8], Status); 6] = [
+    let closing = b"close 1\nask 1 3 3\nclose 9";
+    let closing_replies = b"closed 1
+answer 1 3 3 0.750000000000000000 0.750000000000000000 3
+refused 3 NoArc
+";
+    let cut_off = b"close 2\nclose 3\nask 1 3 9";
+    let cut_off_replies = b"closed 2
+closed 3
+answer 1 3 9 0.000000000000000000 0.000000000000000000 -
+";
+    let emptied = b"edit 2 1:0 0:0\nask 1 3 2";
+    let emptied_replies = b"edited 2
+answer 1 3 2 0.000000000000000000 0.000000000000000000 -
+";
+    let faulty = b"go\nask 1 3\nedit 2 1-4\nedit 9 1:5\nedit 2 0:1 1:1\nedit 2 1:1 1:1\nclose";
+    let faults = b"refused 1 Word
+refused 2 Count
+refused 3 Number
+refused 4 Sum
+refused 5 ZeroTick
+refused 6 RepeatedTick
+refused 7 Count
+";
+    let rows: [(&[u8], &[u8], Status); 8] = [
         (EDITED, EDITED_REPLIES, Status::Done),
+        (lossy, lossy_replies, Status::SomeRefused),
+        (closing, closing_replies, Status::SomeRefused),
+        (cut_off, cut_off_replies, Status::Done),
+        (emptied, emptied_replies, Status::Done),
         (faulty, faults, Status::SomeRefused),
-        (b"edit 9 1:3", b"refused 1 Sum\n", Status::SomeRefused),
-        (unreadable, unread, Status::SomeRefused),
         (b"", b"", Status::Done),
         (b"\n# note\n", b"", Status::Done),
     ];
@@ -429,48 +491,92 @@ answer 1 3 3 0.750000000000000000 0.750000000000000000 3
     Ok(())
 }
 
-#[test]
-fn a_put_fails_within_a_script(rt: HostRuntime) -> Result<(), Fail> {
-    let alloc = rt.alloc();
-    let mut desk = MemoryDesk::new(alloc, Vec::new(alloc));
-    desk.insert("g", TRIANGLE.to_vec(alloc)?)?;
-    desk.insert("h", TIMES.to_vec(alloc)?)?;
-    desk.insert("s", EDITED.to_vec(alloc)?)?;
-    let mut out = MemorySink::new(alloc, 1000, [2].to_vec(alloc)?);
-    assert!(rt; run_line(alloc, "run g h s", &mut desk, &mut out)? == Status::WriteFault);
-    // The first line alone.
-    assert!(rt; out.written().len() == 57 && EDITED_REPLIES.starts_with(out.written()));
-    Ok(())
+/// More arcs from 1 to 2 than a thousand, of which the last is the fastest.
+fn many_arcs(alloc: Global) -> Result<TextOut, Fail> {
+    let mut text = TextOut::new(alloc);
+    text.bytes(b"p sp 2 1001\n")?;
+    for _ in 0u32..1000 {
+        text.bytes(b"a 1 2 9\n")?;
+    }
+    text.bytes(b"a 1 2 1\n")?;
+    Ok(text)
 }
 
 #[test]
-fn faults_of_the_outside(rt: HostRuntime) -> Result<(), Fail> {
+fn wide_asks(rt: HostRuntime) -> Result<(), Fail> {
     let alloc = rt.alloc();
-    let line = "ask g - 1 3 2";
-    let reply = b"answer 1 3 2 1.000000000000000000 1.000000000000000000 1\n".as_slice();
-    let mut desk = MemoryDesk::new(alloc, [2, 6].to_vec(alloc)?);
-    let mut out = MemorySink::new(alloc, 1000, Vec::new(alloc));
-    // The file is not there; then its load fails; then it is read.
-    assert!(rt; run_line(alloc, line, &mut desk, &mut out)? == Status::ReadFault);
-    desk.insert("g", TRIANGLE.to_vec(alloc)?)?;
-    assert!(rt; run_line(alloc, line, &mut desk, &mut out)? == Status::ReadFault);
-    assert!(rt; out.written() == b"".as_slice());
-    assert!(rt; run_line(alloc, line, &mut desk, &mut out)? == Status::Done);
-    assert!(rt; out.written() == reply);
-    // The histograms are not there; then their load fails; the graph was read before.
-    assert!(rt; run_line(alloc, "ask g h 1 3 2", &mut desk, &mut out)? == Status::ReadFault);
-    desk.insert("h", TIMES.to_vec(alloc)?)?;
-    assert!(rt; run_line(alloc, "ask g h 1 3 2", &mut desk, &mut out)? == Status::ReadFault);
-    assert!(rt; out.written() == reply);
-    // Of a sink that takes one byte at a time, a put fails.
-    for fails in [1u32, 2, 9, 57] {
-        let mut out = MemorySink::new(alloc, 1, [fails].to_vec(alloc)?);
-        assert!(rt; run_line(alloc, line, &mut desk, &mut out)? == Status::WriteFault);
-        assert!(rt; out.written().len() + 1 == fails as usize && reply.starts_with(out.written()));
+    let many = many_arcs(alloc)?;
+    let rows: [(&[u8], &str, &[u8]); 2] = [
+        (
+            many.as_bytes(),
+            "ask g - 1 2 1",
+            b"answer 1 2 1 1.000000000000000000 1.000000000000000000 1001\n",
+        ),
+        (
+            TRIANGLE,
+            "ask g - 1 3 1500",
+            b"answer 1 3 1500 1.000000000000000000 1.000000000000000000 1\n",
+        ),
+    ];
+    for (graph, line, reply) in rows {
+        let texts = Texts { graph, ..NET_A };
+        assert!(rt; gets(alloc, &texts, line, reply, Status::Done)?, "{line}");
     }
-    let mut out = MemorySink::new(alloc, 1, [58].to_vec(alloc)?);
-    assert!(rt; run_line(alloc, line, &mut desk, &mut out)? == Status::Done);
-    assert!(rt; out.written() == reply);
+    Ok(())
+}
+
+// A line is written before the next is played, since the first stands though the second put fails.
+#[test]
+fn a_put_fails_within_a_script(rt: HostRuntime) -> Result<(), Fail> {
+    let alloc = rt.alloc();
+    let texts = Texts {
+        script: EDITED,
+        ..NET_A
+    };
+    let mut desk = memory_desk(alloc, &texts, &[])?;
+    let mut out = MemorySink::new(alloc, 1000, [2].to_vec(alloc)?);
+    assert!(rt; run_line(alloc, "run g h s", &mut desk, &mut out)? == Status::WriteFault);
+    assert!(rt; out.written().len() == 57 && EDITED_REPLIES.starts_with(out.written()));
+    // Of a sink that takes one byte at a time, a put fails.
+    for fails in [1u32, 9, 57, 58] {
+        let mut out = MemorySink::new(alloc, 1, [fails].to_vec(alloc)?);
+        assert!(rt; run_line(alloc, "run g h s", &mut desk, &mut out)? == Status::WriteFault);
+        assert!(rt; out.written().len() + 1 == fails as usize);
+        assert!(rt; EDITED_REPLIES.starts_with(out.written()));
+    }
+    Ok(())
+}
+
+// Each input is loaded once, in the order of the words, and nothing else is.
+#[test]
+fn a_load_fails(rt: HostRuntime) -> Result<(), Fail> {
+    let alloc = rt.alloc();
+    let texts = Texts {
+        script: b"ask 1 3 1",
+        ..NET_A
+    };
+    let reply = b"answer 1 3 1 0.000000000000000000 0.000000000000000000 -\n".as_slice();
+    let rows = [
+        ("ask g - 1 3 1", 1u32, 2u32),
+        ("ask g h 1 3 1", 2, 3),
+        ("run g - s", 2, 3),
+        ("run g h s", 3, 4),
+    ];
+    for (line, last, none) in rows {
+        let mut out = SureSink::new(alloc);
+        let mut desk = memory_desk(alloc, &texts, &[last])?;
+        assert!(rt;
+            run_line(alloc, line, &mut desk, &mut out)? == Status::ReadFault,
+            "{line}"
+        );
+        assert!(rt; out.written() == b"".as_slice());
+        let mut desk = memory_desk(alloc, &texts, &[none])?;
+        assert!(rt;
+            run_line(alloc, line, &mut desk, &mut out)? == Status::Done,
+            "{line}"
+        );
+        assert!(rt; out.written() == reply);
+    }
     Ok(())
 }
 

@@ -1,7 +1,6 @@
 // The words of the command line.
 ghost use Rattle.std.specs.Prelude.{◌≡◌, map, string_bytes, option_map};
-ghost use Rattle.sota_app.specs.Words.{ask_of, ask_said, run_said};
-ghost use Rattle.sota_app.specs.Words.{ask_command, run_command, command_of, five};
+ghost use Rattle.sota_app.specs.Words.{ask_of, ask_request, run_request, request_of, five};
 ghost use Rattle.sota_text.specs.Words.{three};
 
 use sota_script::Ask3;
@@ -17,9 +16,9 @@ pub struct AskWords<'a> {
 }
 
 impl<'a> Model for AskWords<'a> {
-    ghost use Rattle.sota_app.specs.Said.{AskSaid};
+    ghost use Rattle.sota_app.specs.Requests.{AskRequest};
 
-    ghost Value = { AskSaid };
+    ghost Value = { AskRequest };
 
     ghost view = { λ words. record {
       graph = words.graph.now;
@@ -37,9 +36,9 @@ pub struct RunWords<'a> {
 }
 
 impl<'a> Model for RunWords<'a> {
-    ghost use Rattle.sota_app.specs.Said.{RunSaid};
+    ghost use Rattle.sota_app.specs.Requests.{RunRequest};
 
-    ghost Value = { RunSaid };
+    ghost Value = { RunRequest };
 
     ghost view = { λ words. record {
       graph = words.graph.now;
@@ -50,45 +49,46 @@ impl<'a> Model for RunWords<'a> {
 
 /// What the words ask for.
 #[derive(Drop)]
-pub enum Command<'a> {
+pub enum Request<'a> {
     /// One ask.
     Ask(AskWords<'a>),
     /// Every line of a script in order.
     Run(RunWords<'a>),
 }
 
-/// The command that the words behind the program's name say. None exactly where they say none.
-pub fn read_words(words: &[String]) -> Option<Command<'_>>
-    ensures { result ≡ command_of (map string_bytes words.now) }
+/// The request of the words after the program's name. None exactly where they are no request.
+pub fn read_words(words: &[String]) -> Option<Request<'_>>
+    ensures { result ≡ request_of (map string_bytes words.now) }
 {
     let (first, rest) = words.split_first()?;
     if first.as_str() == "ask" {
-        read_ask_command(rest)
+        Some(Request::Ask(read_ask_words(rest)?))
     } else if first.as_str() == "run" {
-        read_run_command(rest)
+        Some(Request::Run(read_run_words(rest)?))
     } else {
         None
     }
 }
 
-/// The command of the words behind `ask`.
-fn read_ask_command(words: &[String]) -> Option<Command<'_>>
-    ensures { result ≡ ask_command (map string_bytes words.now) }
+/// The words `GRAPH HISTS O D T`.
+fn read_ask_words(words: &[String]) -> Option<AskWords<'_>>
+    ensures { result ≡ ask_request (map string_bytes words.now) }
 {
-    match read_ask_words(words) {
-        Some(said) => Some(Command::Ask(said)),
-        None => None,
-    }
+    let (graph, hists, origin, dest, budget) = five_words(words)?;
+    let ask = read_ask(origin, dest, budget)?;
+    Some(AskWords { graph, hists, ask })
 }
 
-/// The command of the words behind `run`.
-fn read_run_command(words: &[String]) -> Option<Command<'_>>
-    ensures { result ≡ run_command (map string_bytes words.now) }
+/// The words `GRAPH HISTS SCRIPT`.
+fn read_run_words(words: &[String]) -> Option<RunWords<'_>>
+    ensures { result ≡ run_request (map string_bytes words.now) }
 {
-    match read_run_words(words) {
-        Some(said) => Some(Command::Run(said)),
-        None => None,
-    }
+    let (graph, hists, script) = three_words(words)?;
+    Some(RunWords {
+        graph,
+        hists,
+        script,
+    })
 }
 
 /// The words, if they are five.
@@ -113,27 +113,6 @@ fn three_words(words: &[String]) -> Option<(&str, &str, &str)>
         return None;
     }
     Some((words[0].as_str(), words[1].as_str(), words[2].as_str()))
-}
-
-/// The words `GRAPH HISTS O D T`.
-fn read_ask_words(words: &[String]) -> Option<AskWords<'_>>
-    ensures { result ≡ ask_said (map string_bytes words.now) }
-{
-    let (graph, hists, origin, dest, budget) = five_words(words)?;
-    let ask = read_ask(origin, dest, budget)?;
-    Some(AskWords { graph, hists, ask })
-}
-
-/// The words `GRAPH HISTS SCRIPT`.
-fn read_run_words(words: &[String]) -> Option<RunWords<'_>>
-    ensures { result ≡ run_said (map string_bytes words.now) }
-{
-    let (graph, hists, script) = three_words(words)?;
-    Some(RunWords {
-        graph,
-        hists,
-        script,
-    })
 }
 
 /// The words `O D T`.

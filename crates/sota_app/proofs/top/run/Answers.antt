@@ -3,37 +3,49 @@ use Rattle.sota_edge.specs.Desk.{DeskState}
 use Rattle.sota_edge.specs.Sink.{SinkState}
 use Rattle.sota_network.specs.Network.{IsNet}
 use Rattle.sota_session.specs.Asks.{answer_of}
-use Rattle.sota_app.specs.Script.{asked}
-use Rattle.sota_app.specs.Words.{command_of}
+use Rattle.sota_app.specs.Script.{session_ask}
+use Rattle.sota_app.specs.Words.{request_of}
 use Rattle.sota_app.specs.Outcome.{outcome}
-use Rattle.sota_app.specs.Causes.{Delivered}
-use Rattle.sota_app.specs.Meaning.{line_net, IsDone}
+use Rattle.sota_app.specs.Causes.{Delivered, Ended}
+use Rattle.sota_app.specs.Meaning.{line_net}
 use Rattle.sota_app.proofs.Exact.{exact}
-use Rattle.sota_app.proofs.Answered.{line_written, work_is_done, line_valid}
+use Rattle.sota_app.proofs.Answered.{line_written, line_valid}
 use Rattle.sota_app.proofs.top.run.Goals as goal
 
-pub returns-clause-exact : goal.returns-clause-exact
-returns-clause-exact g c = λ files tells no ran. exact _ _ _ _ _ _ _ tells no ran c.answer.ensures.cause
+pub returns-in-Ok-clause-exact : goal.returns-in-Ok-clause-exact
+returns-in-Ok-clause-exact g c = λ files tells no ran.
+    let words : List (List ℕ) = map (λ word. string_bytes word) c.args.words.now in
+    let ended : Ended c.in-Ok.status (request_of words) (g.D.Desk.state c.args.desk.now)
+    (g.D.Desk.state c.serve.new.desk) (g.O.Sink.state c.args.out.now)
+    (g.O.Sink.state c.serve.new.out) = c.in-Ok.ensures in
+    exact _ _ _ _ _ _ _ tells no ran ended.cause
 
-pub returns-clause-meaning : goal.returns-clause-meaning
-returns-clause-meaning g c = λ files line tells none ran asked_so.
+pub returns-in-Ok-clause-meaning : goal.returns-in-Ok-clause-meaning
+returns-in-Ok-clause-meaning g c = λ files line tells none ran answered.
     let words : List (List ℕ) = map (λ word. string_bytes word) c.args.words.now in
     let d : DeskState = g.D.Desk.state c.args.desk.now in
-    let e : DeskState = g.D.Desk.state c.answer.new.desk in
+    let e : DeskState = g.D.Desk.state c.serve.new.desk in
     let s : SinkState = g.O.Sink.state c.args.out.now in
-    let t : SinkState = g.O.Sink.state c.answer.new.out in
-    let all : Delivered (outcome words files) c.answer.result d e s t = exact _ _ _ _ _ _ _ tells none ran c.answer.ensures.cause in
-    let done : IsDone c.answer.result = work_is_done (command_of words) files _ c.answer.result d e s t asked_so.command all in
+    let t : SinkState = g.O.Sink.state c.serve.new.out in
+    let status = c.in-Ok.status in
+    let ended : Ended status (request_of words) d e s t = c.in-Ok.ensures in
+    let all : Delivered (outcome words files) status d e s t =
+    exact _ _ _ _ _ _ _ tells none ran ended.cause in
     let net = line_net line in
-    let valid : IsNet net = line_valid c.built_times.ensures c.edits_keep_networks.ensures line (command_of words) files asked_so.sayings d tells asked_so.command (c.answer.ensures.work done) in
+    let valid : IsNet net =
+    line_valid c.texts_mean_graphs.ensures c.texts_mean_networks.ensures.text
+    c.texts_mean_networks.ensures.weights c.built_times.ensures.at_most
+    c.edits_keep_networks.ensures line (request_of words) files answered.lines
+    answered.request in
     let ask = line.ask in
-    let answer = answer_of net (asked ask) in
+    let answer = answer_of net (session_ask ask) in
     let law = c.grid_encloses.ensures in
     record {
       lower = answer.lower;
       upper = answer.upper;
       next = answer.next;
-      written = line_written line words (command_of words) files c.answer.result d e s t asked_so asked_so.sayings asked_so.command asked_so.place all;
+      written = line_written line words (request_of words) files status d e s t answered
+          answered.lines answered.request answered.place all;
       meant = record {
         encloses = law.encloses net ask.dest ask.origin ask.budget valid;
         ordered = law.order net ask.dest ask.origin ask.budget valid;

@@ -1,0 +1,88 @@
+-- The network that files mean is one.
+use Rattle.std.proofs.Common.{◌≡◌, ℕ, List, Bool, true, false, Result, Ok, Err, if◌then◌else◌}
+use Rattle.std.proofs.Common.{refl, ap, subst}
+use Rattle.sota_units.specs.Memory.{◌>>=◌}
+use Rattle.sota_edge.specs.Desk.{Files}
+use Rattle.sota_dimacs.specs.Graph.{graph_text, IsGraph}
+use Rattle.sota_dimacs.specs.declared.graph.RawGraph.{RawGraph}
+use Rattle.sota_network.specs.Network.{Net, IsNet}
+use Rattle.sota_histcsv.specs.Certain.{certain_net}
+use Rattle.sota_histcsv.specs.Histograms.{hist_net}
+use Rattle.sota_app.specs.Outcome.{or_input_fault, input_bytes, read_graph, graph_of, certain_hists}
+use Rattle.sota_app.specs.Outcome.{read_hists, is_dash, with_hists, network_of, script_of, Work}
+use Rattle.sota_app.specs.Outcome.{work_of}
+use Rattle.sota_app.specs.declared.input.Input.TheVariants as inputs
+use Rattle.sota_app.specs.declared.input.InputFault.{InputFault}
+use Rattle.sota_app.specs.declared.input.NoInput.{NoInput}
+use Rattle.sota_app.specs.declared.words.Request.{Request}
+use Rattle.sota_app.specs.declared.words.Request.TheVariants as requests
+
+-- what the readers of texts say of their definitions
+abbrev pub Graphs : Type 0
+Graphs = (bytes : List ℕ) (graph : RawGraph) → graph_text bytes ≡ Ok graph → IsGraph graph
+
+abbrev pub Texts : Type 0
+Texts = (bytes : List ℕ) (graph : RawGraph) (net : Net) → IsGraph graph
+    → hist_net bytes graph ≡ Ok net → IsNet net
+
+abbrev pub Weights : Type 0
+Weights = (graph : RawGraph) (net : Net) → IsGraph graph → certain_net graph ≡ Ok net → IsNet net
+
+was_ok : {A E : Type 0} (fault_of : E → InputFault) (read : Result A E) (value : A)
+    → or_input_fault fault_of read ≡ Ok value → read ≡ Ok value
+was_ok fault_of (Ok other) value e = cc
+was_ok fault_of (Err fault) value e = absurd (cc)
+
+-- what was read before what followed it
+record Followed {A B : Type 0} (read : Result A NoInput) (next : A → Result B NoInput)
+    (value : B) : Type 0 where
+  first : A
+  first_is : read ≡ Ok first
+  next_is : next first ≡ Ok value
+
+followed : {A B : Type 0} (read : Result A NoInput) (next : A → Result B NoInput) (value : B)
+    → (read >>= next) ≡ Ok value → Followed read next value
+followed (Ok first) next value e = record { first = first; first_is = refl; next_is = e }
+followed (Err end) next value e = absurd (cc)
+
+graph_valid : Graphs → (name : List ℕ) (files : Files) (graph : RawGraph)
+    → graph_of name files ≡ Ok graph → IsGraph graph
+graph_valid graphs name files graph e =
+    let h = followed (input_bytes inputs.Graph (files name)) read_graph graph e in
+    graphs h.first graph (was_ok _ (graph_text h.first) graph h.next_is)
+
+hists_by : Texts → Weights → (word : Bool) (name : List ℕ) (files : Files) (graph : RawGraph)
+    (net : Net) → IsGraph graph
+    → (if word then certain_hists graph
+    else (input_bytes inputs.Hists (files name) >>= read_hists graph)) ≡ Ok net
+    → IsNet net
+hists_by texts weights true name files graph net valid e =
+    weights graph net valid (was_ok _ (certain_net graph) net e)
+hists_by texts weights false name files graph net valid e =
+    let h = followed (input_bytes inputs.Hists (files name)) (read_hists graph) net e in
+    texts h.first graph net valid (was_ok _ (hist_net h.first graph) net h.next_is)
+
+network_valid : Graphs → Texts → Weights → (graph hists : List ℕ) (files : Files) (net : Net)
+    → network_of graph hists files ≡ Ok net → IsNet net
+network_valid graphs texts weights graph hists files net e =
+    let h = followed (graph_of graph files) (with_hists hists files) net e in
+    hists_by texts weights (is_dash hists) hists files h.first net
+    (graph_valid graphs graph files h.first h.first_is) h.next_is
+
+abbrev pub accepted : Work → Result Work NoInput
+accepted work = Ok work
+
+net_is : (made work : Work) → accepted made ≡ accepted work → made.net ≡ work.net
+net_is made work e = let same : made ≡ work = cc in ap (λ (w : Work). w.net) same
+
+pub work_valid : Graphs → Texts → Weights → (request : Request) (files : Files) (work : Work)
+    → work_of request files ≡ Ok work → IsNet work.net
+work_valid graphs texts weights (requests.Ask ask) files work e =
+    let h = followed (network_of ask.graph ask.hists files) _ work e in
+    subst IsNet (net_is _ work h.next_is)
+    (network_valid graphs texts weights ask.graph ask.hists files h.first h.first_is)
+work_valid graphs texts weights (requests.Run run) files work e =
+    let h = followed (network_of run.graph run.hists files) _ work e in
+    let k = followed (script_of run.script files) _ work h.next_is in
+    subst IsNet (net_is _ work k.next_is)
+    (network_valid graphs texts weights run.graph run.hists files h.first h.first_is)

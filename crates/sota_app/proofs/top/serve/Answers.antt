@@ -1,0 +1,33 @@
+use Rattle.std.proofs.Common.{rules, ◌≡◌, List, ℕ, Option, Some, map, string_bytes, subst}
+use Rattle.sota_edge.specs.Desk.{DeskState}
+use Rattle.sota_edge.specs.Sink.{SinkState}
+use Rattle.sota_app.specs.Words.{request_of}
+use Rattle.sota_app.specs.Inputs.{task_work}
+use Rattle.sota_app.specs.Causes.{Ended, status_of}
+use Rattle.sota_app.specs.declared.words.Request.{Request}
+use Rattle.sota_app.proofs.Ends.{ok_ended, err_ended}
+use Rattle.sota_app.proofs.top.serve.Goals as goal
+
+pub returns-in-Ok : goal.returns-in-Ok
+returns-in-Ok g c =
+    let words : List (List ℕ) = map (λ word. string_bytes word) c.args.words.now in
+    let is : Some c.in-Some.request ≡ request_of words = search rules in
+    let d : DeskState = g.D.Desk.state c.args.desk.now in
+    let e : DeskState = g.D.Desk.state c.load_task.new.desk in
+    let s : SinkState = g.O.Sink.state c.args.out.now in
+    let t : SinkState = g.O.Sink.state c.play_lines.new.out in
+    subst (λ (o : Option Request). Ended (status_of c.play_lines.result) o d e s t) is
+    (ok_ended task_work c.in-Some.request c.in-Ok.field-0 c.play_lines.result d e s t
+    c.in-Ok.ensures.read c.play_lines.ensures)
+
+pub returns-in-Err : goal.returns-in-Err
+returns-in-Err g c =
+    let words : List (List ℕ) = map (λ word. string_bytes word) c.args.words.now in
+    let is : Some c.in-Some.request ≡ request_of words = search rules in
+    let d : DeskState = g.D.Desk.state c.args.desk.now in
+    let e : DeskState = g.D.Desk.state c.load_task.new.desk in
+    let s : SinkState = g.O.Sink.state c.args.out.now in
+    let t : SinkState = g.O.Sink.state c.refuse_input.new.out in
+    subst (λ (o : Option Request). Ended (status_of c.refuse_input.result) o d e s t) is
+    (err_ended task_work c.in-Some.request c.in-Err.end c.refuse_input.result d e s t
+    c.in-Err.ensures.read c.refuse_input.ensures)

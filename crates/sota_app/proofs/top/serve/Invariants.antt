@@ -1,0 +1,5 @@
+use Rattle.sota_app.proofs.top.serve.Given as goal
+
+-- the ledger of the products is that of the blank
+abbrev pub ghosts-play_lines : goal.ghosts-play_lines
+ghosts-play_lines g a = record { name = a.blank.name; parts = a.blank.parts }

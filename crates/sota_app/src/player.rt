@@ -1,0 +1,240 @@
+// Lines that are played: each is done and replied to before the next.
+ghost use Rattle.std.specs.Prelude.{◌≡◌, ◌≤◌, ◌<◌, ◌^◌, ◌∷◌, [], length};
+ghost use Rattle.std.specs.Prelude.{false, IfOk, OnErr, Some, option_to_list};
+ghost use Rattle.sota_units.specs.Limits.{TEXT_LIMIT};
+ghost use Rattle.sota_units.specs.Memory.{AnswersBy};
+ghost use Rattle.sota_script.specs.Few.{HasFewPairs};
+ghost use Rattle.sota_script.specs.declared.command.Command.TheVariants.{Edit, Close};
+ghost use Rattle.sota_app.specs.Replies.{is_shortage, some_refused, replies_text, lines_status};
+ghost use Rattle.sota_app.specs.Replies.{Written, RepliesWritten};
+ghost use Rattle.sota_app.specs.Script.{session_ask, command_result, result_step, step};
+ghost use Rattle.sota_app.specs.Script.{script_line, ask_on, script_lines, replies_to};
+ghost use Rattle.sota_app.specs.Inputs.{lines_of, IsShort};
+ghost use Rattle.sota_app.specs.declared.reply.Reply.TheVariants.{Refused};
+
+use crate::inputs::Script;
+use crate::reply::{Refusal, Reply};
+use crate::status::Status;
+use sota_edge::{Sink, SinkError, put_all};
+use sota_hist::Histogram;
+use sota_network::Network;
+use sota_script::{Ask3, Command, read_line};
+use sota_session::{Ask, Session};
+use sota_text::Lines;
+use sota_units::{ArcId, Items, Mass, NoMemory, NodeId, Steps, Tick};
+use std::alloc::Global;
+use std::sync::ledger::{Blank, Ledger};
+
+/// Plays lines on the network of a session, and writes the replies to a sink.
+#[derive(Drop)]
+struct Player<'s, 'o, 'm, 'p, O: Sink, M: Ledger, P: Ledger> {
+    alloc: Global,
+    session: &'s mut Session,
+    out: &'o mut O,
+    products: &'m mut Steps<M>,
+    pushes: &'p mut Steps<P>,
+}
+
+/// The ask of these numbers.
+fn session_ask(ask: Ask3) -> Ask
+    ensures { result ≡ session_ask ask }
+{
+    Ask {
+        origin: NodeId(ask.origin),
+        dest: NodeId(ask.dest),
+        budget: ask.budget,
+    }
+}
+
+/// The reply to a refused line of this number. A line for which memory was wanted gets none.
+fn refuse(number: u32, refusal: Refusal) -> Result<Reply, NoMemory>
+    ensures { IfOk result (λ reply.
+        (is_shortage refusal ≡ false) × (reply ≡ Refused number refusal)) }
+{
+    if refusal.is_shortage() {
+        Err(NoMemory)
+    } else {
+        Ok(Reply::Refused(number, refusal))
+    }
+}
+
+/// The status of lines that were all replied to.
+fn lines_status(refused: bool) -> Status
+    ensures { result ≡ lines_status refused }
+{
+    if refused {
+        Status::SomeRefused
+    } else {
+        Status::Done
+    }
+}
+
+/// Writes the reply to a line, if there is one, and answers whether it is a refusal.
+fn write_reply<O: Sink>(alloc: Global, reply: Option<Reply>, out: &mut O) -> Result<bool, SinkError>
+    ensures { let replies = option_to_list reply in
+        Written (some_refused replies) result (replies_text replies)
+        (O.state out.old) (O.state out.new) }
+{
+    let Some(reply) = reply else {
+        return Ok(false);
+    };
+    let Ok(text) = reply.line(alloc) else {
+        return Err(SinkError::NoMemory);
+    };
+    put_all(out, text.as_bytes())?;
+    Ok(reply.is_refusal())
+}
+
+impl<O: Sink, M: Ledger, P: Ledger> Player<'_, '_, '_, '_, O, M, P> {
+    /// Replaces the time of an arc by the one of these pairs. Where no pair has a positive mass it
+    /// closes the arc.
+    fn edit(&mut self, arc: ArcId, pairs: &Items<(Tick, Mass)>) -> Result<Reply, Refusal>
+        requires { length pairs.now < 2 ^ 32 }
+        ensures reply { AnswersBy is_shortage
+            (λ reply. record { reply = reply; next = self.new.session.now.network })
+            result (command_result self.old.session.now.network (Edit arc pairs.now)) }
+        ensures kept { OnErr result
+            (self.new.session.now.network ≡ self.old.session.now.network) }
+        ensures sink { self.new.out ≡ self.old.out }
+        ensures pushes { self.new.pushes.ghost_name ≡ self.old.pushes.ghost_name }
+    {
+        let scale = self.session.network().scale();
+        let time = Histogram::at_most(self.alloc, scale, pairs.as_slice())?;
+        self.session.edit(arc, time)?;
+        Ok(Reply::Edited(arc))
+    }
+
+    /// Closes an arc.
+    fn close(&mut self, arc: ArcId) -> Result<Reply, Refusal>
+        ensures reply { AnswersBy is_shortage
+            (λ reply. record { reply = reply; next = self.new.session.now.network })
+            result (command_result self.old.session.now.network (Close arc)) }
+        ensures kept { OnErr result
+            (self.new.session.now.network ≡ self.old.session.now.network) }
+        ensures sink { self.new.out ≡ self.old.out }
+        ensures pushes { self.new.pushes.ghost_name ≡ self.old.pushes.ghost_name }
+    {
+        self.session.edit(arc, Histogram::closed(self.alloc))?;
+        Ok(Reply::Closed(arc))
+    }
+
+    /// Does a command. Where it is refused the network stays as it is.
+    fn perform(&mut self, command: Command) -> Result<Reply, Refusal>
+        requires { HasFewPairs command }
+        ensures reply { AnswersBy is_shortage
+            (λ reply. record { reply = reply; next = self.new.session.now.network })
+            result (command_result self.old.session.now.network command) }
+        ensures kept { OnErr result
+            (self.new.session.now.network ≡ self.old.session.now.network) }
+        ensures sink { self.new.out ≡ self.old.out }
+        ensures pushes { self.new.pushes.ghost_name ≡ self.old.pushes.ghost_name }
+    {
+        match command {
+            Command::Edit { arc, pairs } => self.edit(arc, &pairs),
+            Command::Close { arc } => self.close(arc),
+            Command::Ask(ask) => {
+                let answer = self
+                    .session
+                    .ask(session_ask(ask), self.products, self.pushes)?;
+                Ok(Reply::Answered(session_ask(ask), answer))
+            }
+        }
+    }
+
+    /// Does a command. Its reply is for the line of this number.
+    fn reply_to(&mut self, number: u32, command: Command) -> Result<Reply, NoMemory>
+        requires { HasFewPairs command }
+        ensures reply { IfOk result (λ reply.
+            record { reply = Some reply; next = self.new.session.now.network }
+            ≡ result_step self.old.session.now.network number
+            (command_result self.old.session.now.network command)) }
+        ensures sink { self.new.out ≡ self.old.out }
+        ensures pushes { self.new.pushes.ghost_name ≡ self.old.pushes.ghost_name }
+    {
+        match self.perform(command) {
+            Ok(reply) => Ok(reply),
+            Err(refusal) => refuse(number, refusal),
+        }
+    }
+
+    /// Does what the line of this number asks for. A blank line or a comment has no reply.
+    fn reply_to_line(&mut self, number: u32, line: &[u8]) -> Result<Option<Reply>, NoMemory>
+        requires { length line.now < 2 ^ 32 }
+        ensures reply { IfOk result (λ reply.
+            record { reply = reply; next = self.new.session.now.network }
+            ≡ step self.old.session.now.network (script_line (number, line.now))) }
+        ensures sink { self.new.out ≡ self.old.out }
+        ensures pushes { self.new.pushes.ghost_name ≡ self.old.pushes.ghost_name }
+    {
+        match read_line(self.alloc, line) {
+            Ok(None) => Ok(None),
+            Ok(Some(command)) => Ok(Some(self.reply_to(number, command)?)),
+            Err(fault) => Ok(Some(refuse(number, Refusal::Line(fault))?)),
+        }
+    }
+
+    /// Plays lines. The status is that of all replies. It keeps nothing of the lines above but the
+    /// network.
+    fn play(&mut self, script: &Script) -> Result<Status, SinkError>
+        requires { IsShort script.now }
+        ensures written { RepliesWritten result
+            (replies_to self.old.session.now.network (lines_of script.now))
+            (O.state self.old.out.now) (O.state self.new.out.now) }
+        ensures sink { self.new.out.ghost_name ≡ self.old.out.ghost_name }
+        ensures pushes { self.new.pushes.ghost_name ≡ self.old.pushes.ghost_name }
+    {
+        match script {
+            Script::Ask(ask) => {
+                let Ok(reply) = self.reply_to(1, Command::Ask(*ask)) else {
+                    return Err(SinkError::NoMemory);
+                };
+                let refused = write_reply(self.alloc, Some(reply), self.out)?;
+                Ok(lines_status(refused))
+            }
+            Script::Text(text) => {
+                let bytes = text.as_slice();
+                let mut refused = false;
+                for line in Lines::new(bytes) {
+                    let line_bytes = &bytes[line.span.from..line.span.to];
+                    let Ok(reply) = self.reply_to_line(line.number, line_bytes) else {
+                        return Err(SinkError::NoMemory);
+                    };
+                    refused |= write_reply(self.alloc, reply, self.out)?;
+                }
+                Ok(lines_status(refused))
+            }
+        }
+    }
+}
+
+/// Plays lines, each on the network that the lines above it left, and writes the replies. A line
+/// that is refused changes nothing, and the lines below it go on. The status is that of all
+/// replies. The products of the planning are counted with the blank's ledger.
+pub fn play_lines<O: Sink, M: Ledger, P: Ledger>(
+    alloc: Global,
+    network: Network,
+    script: &Script,
+    out: &mut O,
+    blank: Blank,
+    pushes: &mut Steps<P>,
+) -> Result<Status, SinkError>
+    requires short { IsShort script.now }
+    requires name { blank.name ≡ M.name }
+    requires parts { blank.parts ≡ M.parts }
+    requires some { 0 < blank.parts }
+    ensures { RepliesWritten result (replies_to network (lines_of script.now))
+        (O.state out.old) (O.state out.new) }
+{
+    let Ok(mut session) = Session::new(alloc, network) else {
+        return Err(SinkError::NoMemory);
+    };
+    let mut products = Steps::<M>::new(blank);
+    let mut player = Player {
+        alloc,
+        session: &mut session,
+        out,
+        products: &mut products,
+        pushes,
+    };
+    player.play(script)
+}
