@@ -21,7 +21,7 @@ use Rattle.sota_check.specs.Certified.{value, Holds, IsCertified}
 use Rattle.sota_check.specs.Planned.{grid_entry, entry_if, ask_head, IsPlanned, AreGridRows, IsGridRow, IsPlanFile}
 use Rattle.sota_network.proofs.Walking.{region-closed}
 use Rattle.sota_check.proofs.Closing.{weighed-same, reads-at, lo-none}
-use Rattle.sota_check.proofs.Places.{entry-there, entry-only}
+use Rattle.sota_polfile.proofs.InRows.{entry-there, entry-only}
 use Rattle.sota_check.proofs.Keeping.{value-dest, value-elsewhere}
 
 module _ (net : Net) (valid : IsNet net) (origin dest last : ℕ) (table : Table) (plan : IsPlanned net origin dest last table) where

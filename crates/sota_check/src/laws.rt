@@ -1,30 +1,17 @@
 // What is true of the definitions themselves. The functions do nothing: their contracts are the
 // theorems.
-ghost use Rattle.std.specs.Prelude.{ℕ, ◌≡◌, ◌+◌, ◌*◌, ◌^◌, ◌≤◌, slice_get, None, Some};
+ghost use Rattle.std.specs.Prelude.{ℕ, ◌≡◌, ◌*◌, ◌^◌, ◌≤◌, None, Some};
 ghost use Rattle.sota_units.specs.Rounding.{ONE};
 ghost use Rattle.sota_network.specs.Network.{Net, IsNet};
 ghost use Rattle.sota_network.specs.Grid.{lo};
 ghost use Rattle.sota_network.specs.Trees.{follow, score};
 ghost use Rattle.sota_network.specs.Examples.{triangle};
-ghost use Rattle.sota_polfile.specs.Table.{Table, IsTable, entry_of};
-ghost use Rattle.sota_polfile.specs.declared.entry.PolicyEntry.{PolicyEntry};
-ghost use Rattle.sota_polfile.specs.declared.row.PolicyRow.{PolicyRow};
+ghost use Rattle.sota_polfile.specs.Table.{Table, IsTable};
 ghost use Rattle.sota_check.specs.Certified.{value, rule, IsCertified};
 ghost use Rattle.sota_check.specs.Rejected.{rejection};
 ghost use Rattle.sota_check.specs.Examples.{triangle_policy};
 ghost use Rattle.sota_check.specs.declared.verdict.Rejection.TheVariants.{Value};
 ghost use Rattle.sota_check.specs.Planned.{IsPlanned, AreGridRows, IsPlanFile, ask_head};
-
-/// Entry `j` of a row is the entry of the row's node for the budget that is `j` more than the row's
-/// first, and each entry stands so.
-pub fn entries_stand_in_rows()
-    ensures there { (table : Table) (k j : ℕ) (row : PolicyRow) (entry : PolicyEntry)
-        → IsTable table → slice_get table.rows k ≡ Some row → slice_get row.entries j ≡ Some entry
-        → entry_of table row.node (row.first + j) ≡ Some entry }
-    ensures only { (table : Table) (i t : ℕ) (entry : PolicyEntry) → entry_of table i t ≡ Some entry
-        → (k : ℕ) × (row : PolicyRow) × (j : ℕ) × (slice_get table.rows k ≡ Some row)
-        × (row.node ≡ i) × (t ≡ row.first + j) × (slice_get row.entries j ≡ Some entry) }
-{}
 
 /// The tree of a policy that holds attains its value at every node and budget, and no value is more
 /// than one whole.

@@ -7,3 +7,4 @@ pub mod Rows
 pub mod Files
 pub mod Cuts
 pub mod Replies
+pub mod InRows

@@ -1,15 +1,19 @@
 -- The first fault of bytes that are no policy file, and of parts that are no table.
-use Rattle.std.specs.Prelude.{◌≡◌, ℕ, ◌+◌, ◌-◌, ◌*◌, ◌/◌, ◌==◌, nat_le, nat_lt, nat_eq, Bool, false, not, ◌&&◌, if◌then◌else◌, List, [], ◌∷◌, length, map, Option, Some, None, Result, Ok, Err}
+use Rattle.std.specs.Prelude.{◌≡◌, ℕ, ◌+◌, ◌-◌, ◌*◌, ◌/◌, ◌==◌, nat_le, nat_lt, nat_eq, Bool, false}
+use Rattle.std.specs.Prelude.{not, ◌&&◌, if◌then◌else◌, List, [], ◌∷◌, length, map, Option, Some}
+use Rattle.std.specs.Prelude.{None, Result, Ok, Err}
 use Rattle.std.specs.Option.{option_map_or}
 use Rattle.std.specs.Result.{result_err}
 use Rattle.std.specs.List.{starts_with, range_with_len}
 use Rattle.sota_units.specs.Rounding.{SCALE_LIMIT}
 use Rattle.sota_polfile.specs.declared.fault.PolicyFault.{PolicyFault}
-use Rattle.sota_polfile.specs.declared.fault.PolicyFault.TheVariants.{Magic, Truncated, Order, Range, Trailing, NoMemory}
+use Rattle.sota_polfile.specs.declared.fault.PolicyFault.TheVariants.{Magic, Truncated, Order}
+use Rattle.sota_polfile.specs.declared.fault.PolicyFault.TheVariants.{Range, Trailing, NoMemory}
 use Rattle.sota_polfile.specs.declared.head.PolicyHead.{PolicyHead}
 use Rattle.sota_polfile.specs.declared.row.PolicyRow.{PolicyRow}
 use Rattle.sota_polfile.specs.declared.row.RowHead.{RowHead}
-use Rattle.sota_polfile.specs.Table.{Table, NODE_LIMIT, BUDGET_LIMIT, row_head}
+use Rattle.sota_polfile.specs.Table.{Table, row_head}
+use Rattle.sota_units.specs.Limits.{NODE_LIMIT, BUDGET_LIMIT}
 use Rattle.sota_polfile.specs.Spelling.{magic}
 use Rattle.sota_polfile.specs.Places.{head_at, row_count, row_head_at, start, node_before, table_at}
 
@@ -39,22 +43,28 @@ first_of [] = None
 first_of (None ∷ more) = first_of more
 first_of (Some fault ∷ more) = Some fault
 
--- a row does not stand behind the row before it
+-- a row does not come after the row before it
 abbrev pub is_unordered : Option ℕ → ℕ → Bool
 is_unordered before node = option_map_or (λ other. nat_le node other) before false
 
--- the fault of a row's numbers, behind a row of the node before; rows are counted from 1
+-- the fault of a row's numbers, after a row of the node before; rows are counted from 1
 unfoldable pub numbers_fault : PolicyHead → Option ℕ → ℕ → RowHead → Option PolicyFault
-numbers_fault head before number row = first_of (fault_if (is_unordered before row.node) (Order number) ∷ fault_if (not (is_row_head head row)) (Range number) ∷ [])
+numbers_fault head before number row =
+    first_of (fault_if (is_unordered before row.node) (Order number)
+    ∷ fault_if (not (is_row_head head row)) (Range number) ∷ [])
 
 -- the fault of the first row that has one, counted from this number
 unfoldable pub rows_fault : PolicyHead → Option ℕ → ℕ → List RowHead → Option PolicyFault
 rows_fault head before number [] = None
-rows_fault head before number (row ∷ rows) = first_of (numbers_fault head before number row ∷ rows_fault head (Some row.node) (number + 1) rows ∷ [])
+rows_fault head before number (row ∷ rows) =
+    first_of (numbers_fault head before number row
+    ∷ rows_fault head (Some row.node) (number + 1) rows ∷ [])
 
 -- the fault of parts that are no table
 unfoldable pub parts_fault : PolicyHead → List PolicyRow → Option PolicyFault
-parts_fault head rows = first_of (fault_if (not (is_head head)) (Range 0) ∷ rows_fault head None 1 (map row_head rows) ∷ [])
+parts_fault head rows =
+    first_of (fault_if (not (is_head head)) (Range 0)
+    ∷ rows_fault head None 1 (map row_head rows) ∷ [])
 
 -- the fault of the row at this place in a file
 unfoldable pub row_fault_at : List ℕ → PolicyHead → ℕ → Option ℕ → ℕ → Option PolicyFault
@@ -63,7 +73,8 @@ row_fault_at bytes head at before number =
     let entries = at + 12 in
     first_of (fault_if (nat_lt (length bytes) entries) (Truncated at)
     ∷ numbers_fault head before number row
-    ∷ fault_if (nat_lt (length bytes) (entries + 12 * row.count)) (Truncated (entries + 12 * ((length bytes - entries) / 12)))
+    ∷ fault_if (nat_lt (length bytes) (entries + 12 * row.count))
+    (Truncated (entries + 12 * ((length bytes - entries) / 12)))
     ∷ [])
 
 abbrev pub row_fault : List ℕ → ℕ → Option PolicyFault
@@ -95,7 +106,9 @@ policy_of bytes = or_fault (first_fault bytes) (table_at bytes)
 
 -- The first fault of the first bytes of a policy file, so many that the file is not whole.
 abbrev pub cut_of : ℕ → PolicyFault
-cut_of len = if nat_lt len 8 then Magic else (if nat_lt len 32 then Truncated 0 else Truncated (32 + 12 * ((len - 32) / 12)))
+cut_of len =
+    if nat_lt len 8 then Magic else
+    if nat_lt len 32 then Truncated 0 else Truncated (32 + 12 * ((len - 32) / 12))
 
 -- The fault that was found. Want of memory may take the place of every answer.
 abbrev pub IsFault : PolicyFault → Option PolicyFault → Type 0

@@ -3,3 +3,4 @@ pub mod Table
 pub mod Spelling
 pub mod Places
 pub mod Faults
+pub mod Words

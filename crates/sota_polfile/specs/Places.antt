@@ -12,14 +12,24 @@ unfoldable pub number_at : Width → List ℕ → ℕ → ℕ
 number_at w bytes at = from_be_bytes w (take (byte_len w) (drop at bytes))
 
 abbrev pub head_at : List ℕ → PolicyHead
-head_at bytes = record { nodes = number_at w32 bytes 8; dest = number_at w32 bytes 12; origin = number_at w32 bytes 16; budget = number_at w32 bytes 20; scale = number_at w32 bytes 24 }
+head_at bytes = record {
+  nodes = number_at w32 bytes 8;
+  dest = number_at w32 bytes 12;
+  origin = number_at w32 bytes 16;
+  budget = number_at w32 bytes 20;
+  scale = number_at w32 bytes 24;
+}
 
 -- how many rows the head claims
 abbrev pub row_count : List ℕ → ℕ
 row_count bytes = number_at w32 bytes 28
 
 abbrev pub row_head_at : List ℕ → ℕ → RowHead
-row_head_at bytes at = record { node = number_at w32 bytes at; first = number_at w32 bytes (at + 4); count = number_at w32 bytes (at + 8) }
+row_head_at bytes at = record {
+  node = number_at w32 bytes at;
+  first = number_at w32 bytes (at + 4);
+  count = number_at w32 bytes (at + 8);
+}
 
 abbrev pub entry_at : List ℕ → ℕ → PolicyEntry
 entry_at bytes at = record { arc = number_at w32 bytes at; value = number_at w64 bytes (at + 4) }
@@ -27,11 +37,15 @@ entry_at bytes at = record { arc = number_at w32 bytes at; value = number_at w64
 abbrev pub entries_at : List ℕ → ℕ → ℕ → List PolicyEntry
 entries_at bytes at count = map (λ i. entry_at bytes (at + 12 * i)) (range_with_len 0 count)
 
--- the entries, of twelve bytes each, behind a row head of twelve bytes
+-- the entries, of twelve bytes each, after a row head of twelve bytes
 abbrev pub row_at : List ℕ → ℕ → PolicyRow
-row_at bytes at = let row = row_head_at bytes at in record { node = row.node; first = row.first; entries = entries_at bytes (at + 12) row.count }
+row_at bytes at = let row = row_head_at bytes at in record {
+  node = row.node;
+  first = row.first;
+  entries = entries_at bytes (at + 12) row.count;
+}
 
--- where row k stands, counted from 0: behind the head and the rows before it
+-- where row k stands, counted from 0: after the head and the rows before it
 unfoldable pub start : List ℕ → ℕ → ℕ
 start bytes zero = 32
 start bytes (suc k) = let at = start bytes k in at + 12 + 12 * (row_head_at bytes at).count

@@ -1,20 +1,15 @@
 -- What a policy file says, apart from its bytes.
-use Rattle.std.specs.Prelude.{◌≢◌, ℕ, ◌+◌, ◌-◌, ◌≤◌, ◌==◌, if◌then◌else◌, nat_le, Option, None, List, length, map, All, option_and_then, slice_get}
+use Rattle.std.specs.Prelude.{◌≢◌, ℕ, ◌+◌, ◌-◌, ◌≤◌, ◌==◌, if◌then◌else◌, nat_le, Option, None}
+use Rattle.std.specs.Prelude.{List, length, map, All, option_and_then, slice_get}
 use Rattle.std.specs.List.{find, sum_by}
 use Rattle.std.specs.List.Sorted.{IsStrictlyIncreasing}
+use Rattle.sota_units.specs.Limits.{NODE_LIMIT, BUDGET_LIMIT}
 use Rattle.sota_units.specs.Rounding.{SCALE_LIMIT}
 use Rattle.sota_polfile.specs.declared.entry.PolicyEntry.{PolicyEntry}
 use Rattle.sota_polfile.specs.declared.head.PolicyHead.{PolicyHead}
 use Rattle.sota_polfile.specs.declared.row.PolicyRow.{PolicyRow}
 use Rattle.sota_polfile.specs.declared.row.RowHead.{RowHead}
 use Rattle.sota_polfile.specs.Entry.{IsEntry}
-
-abbrev pub NODE_LIMIT : ℕ
-NODE_LIMIT = 1000000
-
--- the greatest budget, in ticks
-abbrev pub BUDGET_LIMIT : ℕ
-BUDGET_LIMIT = 65535
 
 -- a head, and a row for each node with entries
 pub record Table : Type 0 where
@@ -58,8 +53,10 @@ cells table = sum_by (λ row. length row.entries) table.rows
 
 -- the entry of a row for a budget: its entries are for the budgets first, first + 1 and so on
 abbrev pub entry_for : PolicyRow → ℕ → Option PolicyEntry
-entry_for row budget = if nat_le row.first budget then slice_get row.entries (budget - row.first) else None
+entry_for row budget =
+    if nat_le row.first budget then slice_get row.entries (budget - row.first) else None
 
 -- the entry of a node for a budget; none where no row has that node and budget
 abbrev pub entry_of : Table → ℕ → ℕ → Option PolicyEntry
-entry_of table node budget = option_and_then (λ row. entry_for row budget) (find (λ row. row.node == node) table.rows)
+entry_of table node budget =
+    option_and_then (λ row. entry_for row budget) (find (λ row. row.node == node) table.rows)

@@ -1,6 +1,7 @@
 // Why bytes are no policy file.
 ghost use Rattle.std.specs.Prelude.{◌≡◌};
 ghost use Rattle.sota_polfile.specs.declared.fault.PolicyFault.TheVariants.{NoMemory};
+ghost use Rattle.sota_polfile.specs.Words.{fault_word, fault_place};
 
 use std::alloc::{AllocError, AllocFailed};
 
@@ -19,6 +20,33 @@ pub enum PolicyFault {
     Trailing(u64),
     /// Memory was wanted, and there was none.
     NoMemory,
+}
+
+impl PolicyFault {
+    /// Its name, as replies print it.
+    pub fn word(self) -> &'static [u8]
+        ensures { result.now ≡ fault_word self }
+    {
+        match self {
+            PolicyFault::Magic => b"Magic",
+            PolicyFault::Truncated(_) => b"Truncated",
+            PolicyFault::Order(_) => b"Order",
+            PolicyFault::Range(_) => b"Range",
+            PolicyFault::Trailing(_) => b"Trailing",
+            PolicyFault::NoMemory => b"NoMemory",
+        }
+    }
+
+    /// The number that it carries, 0 where there is none.
+    pub fn place(self) -> u64
+        ensures { result ≡ fault_place self }
+    {
+        match self {
+            PolicyFault::Truncated(offset) | PolicyFault::Trailing(offset) => offset,
+            PolicyFault::Order(row) | PolicyFault::Range(row) => u64::from(row),
+            PolicyFault::Magic | PolicyFault::NoMemory => 0,
+        }
+    }
 }
 
 impl From<AllocError> for PolicyFault {

@@ -3,6 +3,8 @@ ghost use Rattle.std.specs.Prelude.{◌≡◌, IsTrue};
 ghost use Rattle.sota_polfile.specs.Table.{IsHead};
 ghost use Rattle.sota_polfile.specs.Faults.{is_head};
 
+use sota_units::{BUDGET_LIMIT, NODE_LIMIT, SCALE_LIMIT};
+
 /// Whose policy it is: numbers of nodes are from 1 to `nodes`.
 #[derive(Clone, Copy, Debug, PartialEq, Eq)]
 pub struct PolicyHead {
@@ -19,21 +21,15 @@ pub struct PolicyHead {
 }
 
 impl PolicyHead {
-    const NODE_LIMIT: u32 = 1_000_000;
-
-    const BUDGET_LIMIT: u32 = 65_535;
-
-    const SCALE_LIMIT: u32 = 1_000_000_000;
-
     #[tactic(auto, using(crate::proofs::Rules::head_fits))]
     pub(crate) fn is_in_range(&self) -> bool
         ensures value { result ≡ is_head self.now }
         ensures valid { IsTrue result → IsHead self.now }
     {
-        (1..=Self::NODE_LIMIT).contains(&self.nodes)
+        (1..=NODE_LIMIT).contains(&self.nodes)
             && (1..=self.nodes).contains(&self.dest)
             && (1..=self.nodes).contains(&self.origin)
-            && self.budget <= Self::BUDGET_LIMIT
-            && (1..=Self::SCALE_LIMIT).contains(&self.scale)
+            && self.budget <= BUDGET_LIMIT
+            && (1..=SCALE_LIMIT).contains(&self.scale)
     }
 }

@@ -1,25 +1,41 @@
 // Policy files and tables are one to one, and no part of a file from its front on is a file.
-ghost use Rattle.std.specs.Prelude.{◌≡◌, ◌≢◌, ◌<◌, ℕ, List, All, take, Some, Ok};
-ghost use Rattle.sota_polfile.specs.Table.{Table, IsTable};
+ghost use Rattle.std.specs.Prelude.{◌≡◌, ◌≢◌, ◌+◌, ◌<◌, ℕ, List, All, slice_get, take, Some, Ok};
+ghost use Rattle.sota_polfile.specs.Table.{Table, IsTable, entry_of};
+ghost use Rattle.sota_polfile.specs.declared.entry.PolicyEntry.{PolicyEntry};
+ghost use Rattle.sota_polfile.specs.declared.row.PolicyRow.{PolicyRow};
 ghost use Rattle.sota_polfile.specs.Spelling.{spelling, file_len};
 ghost use Rattle.sota_polfile.specs.Faults.{first_fault, policy_of, cut_of};
 
 use crate::{PolicyFault, PolicyTable};
 
-/// Each table is what its spelling says, so tables differ in their files; and bytes that say a table are its spelling, so each list of
-/// bytes is the file of one table or has a first fault.
-pub fn one_to_one()
-    ensures again { (table : Table) → IsTable table → policy_of (spelling table) ≡ Ok table }
-    ensures whole { (bytes : List ℕ) (table : Table) → All (λ byte. byte < 256) bytes → policy_of bytes ≡ Ok table → IsTable table × (bytes ≡ spelling table) }
+/// Entry `j` of a row is the entry of the row's node for the budget that is `j` more than the row's
+/// first, and each entry stands so.
+pub fn entries_stand_in_rows()
+    ensures there { (table : Table) (k j : ℕ) (row : PolicyRow) (entry : PolicyEntry)
+        → IsTable table → slice_get table.rows k ≡ Some row → slice_get row.entries j ≡ Some entry
+        → entry_of table row.node (row.first + j) ≡ Some entry }
+    ensures only { (table : Table) (i t : ℕ) (entry : PolicyEntry) → entry_of table i t ≡ Some entry
+        → (k : ℕ) × (row : PolicyRow) × (j : ℕ) × (slice_get table.rows k ≡ Some row)
+        × (row.node ≡ i) × (t ≡ row.first + j) × (slice_get row.entries j ≡ Some entry) }
 {}
 
-/// The fault of the first `length` bytes of the table's policy file, where the file is longer. It takes no memory.
+/// Each table is what its spelling means, so tables differ in their files; and bytes that mean a
+/// table are its spelling, so each list of bytes is the file of one table or has a first fault.
+pub fn one_to_one()
+    ensures again { (table : Table) → IsTable table → policy_of (spelling table) ≡ Ok table }
+    ensures whole { (bytes : List ℕ) (table : Table) → All (λ byte. byte < 256) bytes
+        → policy_of bytes ≡ Ok table → IsTable table × (bytes ≡ spelling table) }
+{}
+
+/// The fault of the first `length` bytes of the table's policy file, where the file is longer. It
+/// takes no memory.
 pub fn cut_fault(table: &PolicyTable, length: u64) -> PolicyFault
     requires { length < file_len table.now }
     ensures value { result ≡ cut_of length }
     ensures first { first_fault (take length (spelling table.now)) ≡ Some result }
     // So no part of a policy file from its front on is a policy file.
-    ensures no_file { (other : Table) → IsTable other → take length (spelling table.now) ≢ spelling other }
+    ensures no_file { (other : Table) → IsTable other
+        → take length (spelling table.now) ≢ spelling other }
 {
     let _head = table.head();
     cut(length)

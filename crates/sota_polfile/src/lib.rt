@@ -1,4 +1,5 @@
-//! Policy files, version 1: for nodes and remaining budgets the arc to take and the value that it attains.
+//! Policy files, version 1: for nodes and remaining budgets the arc to take and the value that it
+//! attains.
 #![tactic(auto)]
 
 mod entry;
@@ -14,7 +15,7 @@ mod writing;
 pub use entry::{PolicyEntries, PolicyEntry};
 pub use fault::PolicyFault;
 pub use head::PolicyHead;
-pub use laws::{cut_fault, one_to_one};
+pub use laws::{cut_fault, entries_stand_in_rows, one_to_one};
 pub use reading::read_policy;
 pub use row::PolicyRow;
 pub use table::PolicyTable;

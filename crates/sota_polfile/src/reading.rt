@@ -1,9 +1,11 @@
-// Files are read in one pass. Lists grow as entries are found, so no head costs memory that the bytes do not back.
+// Files are read in one pass. Lists grow as entries are found, so no head costs memory that the
+// bytes do not back.
 ghost use Rattle.std.specs.Prelude.{◌≡◌, ◌+◌, ◌*◌, ◌≤◌, length, IfOk, Ok};
 ghost use Rattle.sota_polfile.specs.Table.{Table, IsTable};
 ghost use Rattle.sota_polfile.specs.Spelling.{spelling};
 ghost use Rattle.sota_polfile.specs.Places.{head_at, entries_at, row_at, rows_at, start};
-ghost use Rattle.sota_polfile.specs.Faults.{row_fault_at, file_rows_fault, policy_of, or_fault, Answers, Gives};
+ghost use Rattle.sota_polfile.specs.Faults.{row_fault_at, file_rows_fault, policy_of, or_fault};
+ghost use Rattle.sota_polfile.specs.Faults.{Answers, Gives};
 
 use crate::{PolicyEntries, PolicyEntry, PolicyFault, PolicyHead, PolicyRow, PolicyTable, places};
 use std::alloc::{AllocError, Global};
@@ -33,7 +35,7 @@ fn entries_at(
     Ok(list)
 }
 
-/// The row of this number at this place, behind a row of the node `before`.
+/// The row of this number at this place, after a row of the node `before`.
 fn read_row(
     alloc: Global,
     bytes: &[u8],
@@ -43,7 +45,8 @@ fn read_row(
     number: u32,
 ) -> Result<PolicyRow, PolicyFault>
     requires { at ≤ length bytes.now }
-    ensures { Gives result (or_fault (row_fault_at bytes.now head.now at before number) (row_at bytes.now at)) }
+    ensures { Gives result (or_fault (row_fault_at bytes.now head.now at before number)
+        (row_at bytes.now at)) }
 {
     let left = bytes.len() - at;
     if left < ROW_HEAD {
@@ -75,7 +78,8 @@ fn read_rows(
     requires head { head.now ≡ head_at bytes.now }
     requires whole { 32 ≤ length bytes.now }
     ensures rows { IfOk result (λ read. read.0.items ≡ rows_at bytes.now 0 count) }
-    ensures end { IfOk result (λ read. (read.1 ≡ start bytes.now count) × (read.1 ≤ length bytes.now)) }
+    ensures end { IfOk result (λ read. (read.1 ≡ start bytes.now count)
+        × (read.1 ≤ length bytes.now)) }
     ensures fault { Answers result (file_rows_fault bytes.now 0 count) }
 {
     let mut rows = Vec::new(alloc);
@@ -111,14 +115,16 @@ fn table_of(alloc: Global, bytes: &[u8]) -> Result<PolicyTable, PolicyFault>
     Ok(PolicyTable { head, rows })
 }
 
-/// The table of a policy file, or the first fault of bytes that are none, from the front on. It takes no memory that the bytes do
-/// not back, whatever numbers they claim. Who made the file does not matter: arcs and values are as they stand.
+/// The table of a policy file, or the first fault of bytes that are none, from the front on. It
+/// takes no memory that the bytes do not back, whatever numbers they claim. Who made the file does
+/// not matter: arcs and values are as they stand.
 pub fn read_policy(alloc: Global, bytes: &[u8]) -> Result<PolicyTable, PolicyFault>
     requires { length bytes.now ≤ 1073741824 }
     // What is read and written again has the same bytes.
     ensures read { IfOk result (λ table. IsTable table × (bytes.now ≡ spelling table)) }
     // What is spelled so is read, unless memory runs out.
-    ensures only { (table : Table) → IsTable table → bytes.now ≡ spelling table → Gives result (Ok table) }
+    ensures only { (table : Table) → IsTable table → bytes.now ≡ spelling table
+        → Gives result (Ok table) }
     // Any other list of bytes is answered with its first fault.
     ensures exact { Gives result (policy_of bytes.now) }
 {

@@ -60,7 +60,7 @@ impl RowHead {
             && self.count <= u64::from(head.budget - self.first) + 1
     }
 
-    /// The row does not stand behind the row of the node `before`.
+    /// The row does not come after the row of the node `before`.
     fn is_unordered(self, before: Option<u32>) -> bool
         ensures { result ≡ is_unordered before self.node }
     {
@@ -70,7 +70,7 @@ impl RowHead {
         }
     }
 
-    /// The fault of the numbers of this row, counted from 1, behind a row of the node `before`.
+    /// The fault of the numbers of this row, counted from 1, after a row of the node `before`.
     #[tactic(auto, unfolding(crate::specs::Faults::numbers_fault))]
     pub(crate) fn fault(
         self,

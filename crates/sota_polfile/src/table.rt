@@ -1,10 +1,12 @@
 // A policy in memory.
-ghost use Rattle.std.specs.Prelude.{◌≡◌, ◌==◌, ◌*◌, ◌<◌, ◌≤◌, ◌↔◌, All, length, slice_get, map, IsOk, IfOk, IfErr, OnErr, IfNone, None, Some};
+ghost use Rattle.std.specs.Prelude.{◌≡◌, ◌==◌, ◌*◌, ◌<◌, ◌≤◌, ◌↔◌, All, length, slice_get, map};
+ghost use Rattle.std.specs.Prelude.{IsOk, IfOk, IfErr, OnErr, IfNone, None, Some};
 ghost use Rattle.std.specs.Option.{option_copied};
 ghost use Rattle.std.specs.List.{find};
 ghost use Rattle.std.specs.List.Sorted.{IsStrictlyIncreasing};
 ghost use Rattle.sota_polfile.specs.Entry.{IsEntry};
-ghost use Rattle.sota_polfile.specs.Table.{Table, IsHead, IsTable, row_head, nodes, cells, entry_of};
+ghost use Rattle.sota_polfile.specs.Table.{Table, IsHead, IsTable, row_head, nodes, cells};
+ghost use Rattle.sota_polfile.specs.Table.{entry_of};
 ghost use Rattle.sota_polfile.specs.Faults.{rows_fault, parts_fault};
 
 use crate::{PolicyEntry, PolicyFault, PolicyHead, PolicyRow};
@@ -46,8 +48,9 @@ fn rows_fault(head: &PolicyHead, rows: &[PolicyRow]) -> Option<PolicyFault>
 }
 
 impl PolicyTable {
-    /// The table of these parts, or the fault of parts that are none: `Range(0)` for the head, or `Order` or `Range` for the first
-    /// row that is out of order or has a number out of its range. It takes no memory.
+    /// The table of these parts, or the fault of parts that are none: `Range(0)` for the head, or
+    /// `Order` or `Range` for the first row that is out of order or has a number out of its range.
+    /// It takes no memory.
     pub fn from_parts(head: PolicyHead, rows: Vec<PolicyRow>) -> Result<PolicyTable, PolicyFault>
         ensures made { IfOk result (λ table. table ≡ record { head = head; rows = rows.items }) }
         ensures valid { IsOk result ↔ IsTable (record { head = head; rows = rows.items }) }
@@ -93,7 +96,8 @@ impl PolicyTable {
         count
     }
 
-    /// The entry of a node for a budget in ticks. None exactly where no row has that node and budget.
+    /// The entry of a node for a budget in ticks. None exactly where no row has that node and
+    /// budget.
     pub fn entry(&self, node: u32, budget: u32) -> Option<PolicyEntry>
         ensures { result ≡ entry_of self.now node budget }
     {
@@ -114,7 +118,8 @@ impl PolicyTable {
 fn place(rows: &[PolicyRow], node: u32) -> Result<usize, usize>
     requires { IsStrictlyIncreasing (nodes rows.now) }
     ensures within { IfOk result (λ place. place < length rows.now) }
-    ensures found { IfOk result (λ place. find (λ row. row.node == node) rows.now ≡ slice_get rows.now place) }
+    ensures found { IfOk result (λ place. find (λ row. row.node == node) rows.now
+        ≡ slice_get rows.now place) }
     ensures absent { OnErr result (find (λ row. row.node == node) rows.now ≡ None) }
 {
     rows.binary_search_by_key(&node, |row| row.node)

@@ -1,7 +1,8 @@
 // A table has one spelling.
 ghost use Rattle.std.specs.Prelude.{◌≡◌, ◌+◌, ◌*◌, ◌<◌, ◌^◌, ◌++◌, length, OnOk, IfOk, Ok};
 ghost use Rattle.sota_polfile.specs.Table.{cells};
-ghost use Rattle.sota_polfile.specs.Spelling.{numbers, spelled_head, spelled_entry, spelled_row, spelling};
+ghost use Rattle.sota_polfile.specs.Spelling.{numbers, spelled_head, spelled_entry, spelled_row};
+ghost use Rattle.sota_polfile.specs.Spelling.{spelling};
 ghost use Rattle.sota_polfile.specs.Faults.{policy_of};
 
 use crate::{PolicyEntry, PolicyHead, PolicyRow, PolicyTable};
@@ -60,7 +61,8 @@ pub fn write_policy(alloc: Global, table: &PolicyTable) -> Result<Vec<u8>, NoMem
     ensures spelled { IfOk result (λ bytes. bytes.items ≡ spelling table.now) }
     // What is written is read as that table.
     ensures read { IfOk result (λ bytes. policy_of bytes.items ≡ Ok table.now) }
-    ensures len { IfOk result (λ bytes. length bytes.items ≡ 32 + 12 * length table.now.rows + 12 * cells table.now) }
+    ensures len { IfOk result (λ bytes. length bytes.items
+        ≡ 32 + 12 * length table.now.rows + 12 * cells table.now) }
 {
     let rows = table.rows();
     let mut out = Vec::with_capacity(alloc, 32 + 12 * rows.len() + 12 * table.cells() as usize)?;
