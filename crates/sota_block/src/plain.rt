@@ -1,5 +1,6 @@
 // The plain product: each mass of the kernel times each value.
-ghost use Rattle.std.specs.Prelude.{◌≡◌, ℕ, ◌+◌, ◌-◌, ◌*◌, ◌^◌, ◌<◌, ◌≤◌, length, sum, All, EachIndex, slice_index};
+ghost use Rattle.std.specs.Prelude.{◌≡◌, ℕ, ◌+◌, ◌-◌, ◌*◌, ◌^◌, ◌<◌, ◌≤◌, length, sum, All};
+ghost use Rattle.std.specs.Prelude.{EachIndex, slice_index};
 ghost use Rattle.sota_units.specs.Rounding.{ONE, SCALE_LIMIT};
 ghost use Rattle.sota_block.specs.Product.{IsBlockLength, FOLDED_LIMIT, coefficient, sum_below};
 
@@ -18,7 +19,8 @@ pub fn product_plain<M: Ledger>(
     requires masses { sum kernel.now ≤ SCALE_LIMIT }
     requires values { All (λ v. v ≤ ONE) values.now }
     requires room { length into.old ≡ 2 * length kernel.now }
-    ensures coefficients { EachIndex into.new (λ k. slice_index into.new k ≡ coefficient kernel.now values.now k) }
+    ensures coefficients { EachIndex into.new (λ k. slice_index into.new k
+        ≡ coefficient kernel.now values.now k) }
     ensures last { slice_index into.new (length into.new - 1) ≡ 0 }
     ensures within { All (λ c. c < 2 ^ 107) into.new }
     ensures count { (r : ℕ) → length kernel.now ≡ 2 ^ r → products.new ≡ products.old + 4 ^ r }
@@ -26,8 +28,9 @@ pub fn product_plain<M: Ledger>(
     multiply(kernel, values, into, products);
 }
 
-// The plain product, of values that may have been folded. At place k stand the products of the first k + 1 masses and
-// values, and at place k + length those of the others: as many together at each k.
+// The plain product, of values that may have been folded. At place k stand the products of the
+// first k + 1 masses and values, and at place k + length those of the others: as many together at
+// each k.
 pub(crate) fn multiply<M: Ledger>(
     kernel: &[u64],
     values: &[u128],
@@ -38,7 +41,8 @@ pub(crate) fn multiply<M: Ledger>(
     requires masses { sum kernel.now ≤ SCALE_LIMIT }
     requires values { All (λ v. v ≤ FOLDED_LIMIT) values.now }
     requires room { length into.old ≡ 2 * length kernel.now }
-    ensures coefficients { EachIndex into.new (λ k. slice_index into.new k ≡ coefficient kernel.now values.now k) }
+    ensures coefficients { EachIndex into.new (λ k. slice_index into.new k
+        ≡ coefficient kernel.now values.now k) }
     ensures count { products.new ≡ products.old + length kernel.now * length kernel.now }
 {
     let length = kernel.len();

@@ -1,5 +1,5 @@
-// The worked product and a large one, by both calls. How much they count stands in the helpers' contracts, since a
-// counter has no number at run time.
+// The worked product and a large one, by both calls. How much they count stands in the helpers'
+// contracts, since a counter has no number at run time.
 ghost use Rattle.std.specs.Prelude.{◌≡◌, ◌+◌, ◌<◌};
 
 use crate::{product_fold, product_plain, scratch_len};
@@ -31,7 +31,8 @@ fn middling<M: Ledger>(into: &mut [u128; 128], products: &mut Steps<M>)
     );
 }
 
-/// Products of length 256 by both calls, of masses whose sum is the greatest and of the greatest values.
+/// Products of length 256 by both calls, of masses whose sum is the greatest and of the greatest
+/// values.
 fn large<M: Ledger>(plain: &mut [u128; 512], folded: &mut [u128; 512], products: &mut Steps<M>)
     ensures { products.new ≡ products.old + 65536 + 27648 }
 {
