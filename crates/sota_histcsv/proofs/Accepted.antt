@@ -1,7 +1,6 @@
 -- The two statements of which histogram texts are accepted are one.
-use Rattle.std.proofs.Common.{◌≡◌, ℕ, ◌+◌, ◌<◌, ◌≤◌, ◌==◌, ◌&&◌, ◌||◌, not, nat_le, nat_lt, Bool, true, false, cond, List, [], ◌∷◌, ◌++◌, length, map, Option, Some, None, Result, Ok, Err, option_and_then, option_to_list, refl, sym, ◌∙◌, ap, subst, arith, append_assoc, ⊎_elim}
+use Rattle.std.proofs.Common.{◌≡◌, ℕ, ◌+◌, ◌<◌, ◌≤◌, ◌==◌, ◌&&◌, ◌||◌, not, Bool, true, false, cond, List, [], ◌∷◌, ◌++◌, length, map, Option, Some, None, Ok, option_and_then, refl, sym, ◌∙◌, ap, subst, arith, append_assoc, ⊎_elim}
 use Rattle.std.specs.List.{All, list_any, count_by, cons_option, enumerate_from}
-use Rattle.std.specs.Option.{option_or}
 use Rattle.std.proofs.lemmas.Bool.{cases_eq, eq-eqb, ne_eqb, lt-ltb, le-leb}
 use Rattle.std.proofs.lemmas.List.Elements.{All-nil, All-cons, All-head, All-tail, filter_map-append}
 use Rattle.sota_text.specs.Words.{three}
@@ -14,9 +13,9 @@ use Rattle.sota_dimacs.specs.declared.graph.RawArc.{RawArc}
 use Rattle.sota_dimacs.specs.declared.graph.RawGraph.{RawGraph}
 use Rattle.sota_histcsv.specs.declared.entry.Entry.{Entry}
 use Rattle.sota_histcsv.specs.declared.fault.HistFileFault.{HistFileFault}
-use Rattle.sota_histcsv.specs.declared.fault.HistFileFault.TheVariants.{Fields, Number, NoArc, ZeroTick, RepeatedTick}
-use Rattle.sota_histcsv.specs.Records.{is_marked, without_mark, text_records, Row, numbered_rows, header_scale, entry_by, entry_of, kept, entries_in, is_arc, entry_fault, number_fault, own_fault, repeat_fault, record_fault, first_fault}
-use Rattle.sota_histcsv.specs.Histograms.{Contents, fault_first, contents, contents_after, pairs_at, time_by, time_fault, arc_of, arc_fault, least_fault, numbered_arcs, timed, hist_net}
+use Rattle.sota_histcsv.specs.declared.fault.HistFileFault.TheVariants.{Fields, NoArc, ZeroTick}
+use Rattle.sota_histcsv.specs.Records.{without_mark, text_records, Row, numbered_rows, header_scale, entry_by, entry_of, kept, entries_in, is_arc, entry_fault, number_fault, own_fault, repeat_fault, record_fault, first_fault}
+use Rattle.sota_histcsv.specs.Histograms.{Contents, contents, contents_after, pairs_at, time_by, time_fault, arc_of, least_fault, numbered_arcs, timed, hist_net}
 use Rattle.sota_histcsv.specs.Kept.{is_at}
 use Rattle.sota_histcsv.specs.Texts.{Gives, IsTextOf}
 use Rattle.sota_histcsv.proofs.Keeping.{both_none, first_ok, count-cons, are_contents}
