@@ -3,13 +3,14 @@ use Rattle.std.proofs.Common.{◌≡◌, ℕ, ◌+◌, ◌*◌, ◌^◌, ◌≤�
 use Rattle.std.specs.Prelude.{nat_eq}
 use Rattle.std.specs.List.{flat_map, starts_with}
 use Rattle.std.specs.Int.{w32, to_be_bytes}
-use Rattle.std.specs.Result.{result_err}
 use Rattle.std.specs.Cmp.Lexicographic.{same_text}
 use Rattle.std.proofs.lemmas.Bool.{lt-ltb, le-ltb, ltb-false, not_from_true, not_from_false}
 use Rattle.std.proofs.lemmas.List.{append-nil, take-append-drop, length-append, length-drop, drop_all, get_or_past}
 use Rattle.std.proofs.lemmas.List.Elements.{All-from_recursion, recursion_from_All, All-get_or}
 use Rattle.std.proofs.lemmas.List.FromFn.{length-map-range_with_len}
 use Rattle.std.proofs.lemmas.Bool.{cases_lt}
+use Rattle.sota_units.specs.Memory.{Answers}
+use Rattle.sota_polfile.specs.Words.{is_shortage}
 use Rattle.sota_polfile.specs.declared.fault.PolicyFault.{PolicyFault}
 use Rattle.sota_polfile.specs.declared.fault.PolicyFault.TheVariants.{Magic, Truncated, Range, Trailing}
 use Rattle.sota_polfile.specs.declared.head.PolicyHead.{PolicyHead}
@@ -17,12 +18,12 @@ use Rattle.sota_polfile.specs.declared.row.PolicyRow.{PolicyRow}
 use Rattle.sota_polfile.specs.Table.{Table, IsHead, IsRow, IsTable, nodes, cells}
 use Rattle.sota_polfile.specs.Spelling.{magic, numbers, spelled_head, spelled_row, spelling}
 use Rattle.sota_polfile.specs.Places.{number_at, head_at, row_count, start, node_before, rows_at, table_at}
-use Rattle.sota_polfile.specs.Faults.{is_head, file_rows_fault, first_fault, policy_of, Gives}
+use Rattle.sota_polfile.specs.Faults.{is_head, file_rows_fault, first_fault, policy_of}
 use Rattle.sota_polfile.proofs.Numbers.{IsBytes, wide32, number_again, number_takes}
 use Rattle.sota_polfile.proofs.Rules.{head_fits, fit_head, first_of_found, test_failed, none_first, increasing}
 use Rattle.sota_polfile.proofs.Parts.{table_rows, table_bound}
 use Rattle.sota_polfile.proofs.Rows.{rows_again, rows_take, length-rows}
-use Rattle.sota_polfile.proofs.Replies.{or_fault_ok, refused, faultless}
+use Rattle.sota_polfile.proofs.Replies.{fault_or_ok, refused, faultless}
 
 not_false : (b : Bool) → not b ≡ false → b ≡ true
 not_false true e = refl
@@ -211,10 +212,10 @@ clean_spelled bytes fits clean =
 pub read_spelled : (bytes : List ℕ) (table : Table) → IsBytes bytes → policy_of bytes ≡ Ok table → IsTable table × (bytes ≡ spelling table)
 unfolding policy_of
 read_spelled bytes table fits e =
-    let p = or_fault_ok (first_fault bytes) (table_at bytes) table e in
+    let p = fault_or_ok (first_fault bytes) (table_at bytes) table e in
     rw p.1 at (clean_spelled bytes fits (none_clean bytes p.0))
 
-pub reads_spelled : (bytes : List ℕ) (r : Result Table PolicyFault) → IsBytes bytes → Gives r (policy_of bytes) → IfOk r (λ table. IsTable table × (bytes ≡ spelling table))
+pub reads_spelled : (bytes : List ℕ) (r : Result Table PolicyFault) → IsBytes bytes → Answers is_shortage r (policy_of bytes) → IfOk r (λ table. IsTable table × (bytes ≡ spelling table))
 reads_spelled bytes (Ok table) fits given = read_spelled bytes table fits given
 reads_spelled bytes (Err fault) fits given = tt
 
@@ -228,7 +229,7 @@ IsBytes-from_all bytes h i =
 
 -- ---- what a reader has found
 
-pub policy_refused : (bytes : List ℕ) (fault : PolicyFault) → first_fault bytes ≡ Some fault → result_err (policy_of bytes) ≡ Some fault
+pub policy_refused : (bytes : List ℕ) (fault : PolicyFault) → first_fault bytes ≡ Some fault → policy_of bytes ≡ Err fault
 unfolding policy_of
 policy_refused bytes fault e = refused (first_fault bytes) (table_at bytes) fault e
 

@@ -1,14 +1,13 @@
 -- The first fault of bytes that are no policy file, and of parts that are no table.
-use Rattle.std.specs.Prelude.{◌≡◌, ℕ, ◌+◌, ◌-◌, ◌*◌, ◌/◌, ◌==◌, nat_le, nat_lt, nat_eq, Bool, false}
+use Rattle.std.specs.Prelude.{ℕ, ◌+◌, ◌-◌, ◌*◌, ◌/◌, ◌==◌, nat_le, nat_lt, nat_eq, Bool, false}
 use Rattle.std.specs.Prelude.{not, ◌&&◌, if◌then◌else◌, List, [], ◌∷◌, length, map, Option, Some}
 use Rattle.std.specs.Prelude.{None, Result, Ok, Err}
 use Rattle.std.specs.Option.{option_map_or}
-use Rattle.std.specs.Result.{result_err}
 use Rattle.std.specs.List.{starts_with, range_with_len}
 use Rattle.sota_units.specs.Rounding.{SCALE_LIMIT}
 use Rattle.sota_polfile.specs.declared.fault.PolicyFault.{PolicyFault}
 use Rattle.sota_polfile.specs.declared.fault.PolicyFault.TheVariants.{Magic, Truncated, Order}
-use Rattle.sota_polfile.specs.declared.fault.PolicyFault.TheVariants.{Range, Trailing, NoMemory}
+use Rattle.sota_polfile.specs.declared.fault.PolicyFault.TheVariants.{Range, Trailing}
 use Rattle.sota_polfile.specs.declared.head.PolicyHead.{PolicyHead}
 use Rattle.sota_polfile.specs.declared.row.PolicyRow.{PolicyRow}
 use Rattle.sota_polfile.specs.declared.row.RowHead.{RowHead}
@@ -95,32 +94,17 @@ first_fault bytes =
     ∷ fault_if (nat_lt end (length bytes)) (Trailing end)
     ∷ [])
 
--- a value, or the fault that there is
-abbrev pub or_fault : {T : Type 0} → Option PolicyFault → T → Result T PolicyFault
-or_fault None value = Ok value
-or_fault (Some fault) value = Err fault
+-- the fault that was found, or this value where none was
+abbrev pub fault_or : {T : Type 0} → Option PolicyFault → T → Result T PolicyFault
+fault_or None value = Ok value
+fault_or (Some fault) value = Err fault
 
--- what bytes say: a table, or the first fault
+-- what bytes mean: a table, or the first fault
 unfoldable pub policy_of : List ℕ → Result Table PolicyFault
-policy_of bytes = or_fault (first_fault bytes) (table_at bytes)
+policy_of bytes = fault_or (first_fault bytes) (table_at bytes)
 
 -- The first fault of the first bytes of a policy file, so many that the file is not whole.
 abbrev pub cut_of : ℕ → PolicyFault
 cut_of len =
     if nat_lt len 8 then Magic else
     if nat_lt len 32 then Truncated 0 else Truncated (32 + 12 * ((len - 32) / 12))
-
--- The fault that was found. Want of memory may take the place of every answer.
-abbrev pub IsFault : PolicyFault → Option PolicyFault → Type 0
-IsFault NoMemory found = Unit {0}
-IsFault fault found = found ≡ Some fault
-
--- a call answers the fault that was found, and Ok where there was none
-abbrev pub Answers : {T : Type 0} → Result T PolicyFault → Option PolicyFault → Type 0
-Answers (Ok value) found = found ≡ None
-Answers (Err fault) found = IsFault fault found
-
--- a call answers so, but for want of memory
-abbrev pub Gives : {T : Type 0} → Result T PolicyFault → Result T PolicyFault → Type 0
-Gives (Ok value) answer = answer ≡ Ok value
-Gives (Err fault) answer = IsFault fault (result_err answer)

@@ -1,5 +1,5 @@
 -- Faults of a policy file: their printed names and numbers.
-use Rattle.std.specs.Prelude.{ℕ, List, codes}
+use Rattle.std.specs.Prelude.{ℕ, Bool, true, false, List, codes}
 use Rattle.sota_polfile.specs.declared.fault.PolicyFault.{PolicyFault}
 use Rattle.sota_polfile.specs.declared.fault.PolicyFault.TheVariants as faults
 
@@ -20,3 +20,8 @@ fault_place (faults.Order row) = row
 fault_place (faults.Range row) = row
 fault_place (faults.Trailing offset) = offset
 fault_place faults.NoMemory = 0
+
+-- want of memory has no cause in the bytes
+abbrev pub is_shortage : PolicyFault → Bool
+is_shortage faults.NoMemory = true
+is_shortage fault = false

@@ -1,11 +1,12 @@
 // Files are read in one pass. Lists grow as entries are found, so no head costs memory that the
 // bytes do not back.
-ghost use Rattle.std.specs.Prelude.{◌≡◌, ◌+◌, ◌*◌, ◌≤◌, length, IfOk, Ok};
+ghost use Rattle.std.specs.Prelude.{◌≡◌, ◌+◌, ◌*◌, ◌≤◌, length, IfOk, IfErr, OnOk, Ok, None};
+ghost use Rattle.sota_units.specs.Memory.{Answers, IsFault};
+ghost use Rattle.sota_polfile.specs.Words.{is_shortage};
 ghost use Rattle.sota_polfile.specs.Table.{Table, IsTable};
 ghost use Rattle.sota_polfile.specs.Spelling.{spelling};
 ghost use Rattle.sota_polfile.specs.Places.{head_at, entries_at, row_at, rows_at, start};
-ghost use Rattle.sota_polfile.specs.Faults.{row_fault_at, file_rows_fault, policy_of, or_fault};
-ghost use Rattle.sota_polfile.specs.Faults.{Answers, Gives};
+ghost use Rattle.sota_polfile.specs.Faults.{row_fault_at, file_rows_fault, policy_of, fault_or};
 
 use crate::{PolicyEntries, PolicyEntry, PolicyFault, PolicyHead, PolicyRow, PolicyTable, places};
 use std::alloc::{AllocError, Global};
@@ -45,8 +46,8 @@ fn read_row(
     number: u32,
 ) -> Result<PolicyRow, PolicyFault>
     requires { at ≤ length bytes.now }
-    ensures { Gives result (or_fault (row_fault_at bytes.now head.now at before number)
-        (row_at bytes.now at)) }
+    ensures { Answers is_shortage result
+        (fault_or (row_fault_at bytes.now head.now at before number) (row_at bytes.now at)) }
 {
     let left = bytes.len() - at;
     if left < ROW_HEAD {
@@ -80,7 +81,8 @@ fn read_rows(
     ensures rows { IfOk result (λ read. read.0.items ≡ rows_at bytes.now 0 count) }
     ensures end { IfOk result (λ read. (read.1 ≡ start bytes.now count)
         × (read.1 ≤ length bytes.now)) }
-    ensures fault { Answers result (file_rows_fault bytes.now 0 count) }
+    ensures none { OnOk result (file_rows_fault bytes.now 0 count ≡ None) }
+    ensures fault { IfErr result (IsFault is_shortage (file_rows_fault bytes.now 0 count)) }
 {
     let mut rows = Vec::new(alloc);
     let mut at = HEAD;
@@ -96,7 +98,7 @@ fn read_rows(
 
 /// The table that bytes spell, or their first fault.
 fn table_of(alloc: Global, bytes: &[u8]) -> Result<PolicyTable, PolicyFault>
-    ensures { Gives result (policy_of bytes.now) }
+    ensures { Answers is_shortage result (policy_of bytes.now) }
 {
     if !bytes.starts_with(&MAGIC) {
         return Err(PolicyFault::Magic);
@@ -124,9 +126,9 @@ pub fn read_policy(alloc: Global, bytes: &[u8]) -> Result<PolicyTable, PolicyFau
     ensures read { IfOk result (λ table. IsTable table × (bytes.now ≡ spelling table)) }
     // What is spelled so is read, unless memory runs out.
     ensures only { (table : Table) → IsTable table → bytes.now ≡ spelling table
-        → Gives result (Ok table) }
+        → Answers is_shortage result (Ok table) }
     // Any other list of bytes is answered with its first fault.
-    ensures exact { Gives result (policy_of bytes.now) }
+    ensures exact { Answers is_shortage result (policy_of bytes.now) }
 {
     table_of(alloc, bytes)
 }

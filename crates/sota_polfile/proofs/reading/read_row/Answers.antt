@@ -1,9 +1,10 @@
 use Rattle.std.proofs.Common.{◌≡◌, ℕ, ◌+◌, ◌-◌, ◌/◌, Some, length, ap, sym, arith}
 use Rattle.sota_polfile.specs.Places.{row_head_at, row_at}
+use Rattle.sota_polfile.specs.Words.{is_shortage}
 use Rattle.sota_polfile.specs.Faults.{numbers_fault}
 use Rattle.sota_polfile.proofs.Rules.{numbers_fit}
 use Rattle.sota_polfile.proofs.Rows.{in_row_head, in_entries, in_numbers, no_fault}
-use Rattle.sota_polfile.proofs.Replies.{is_fault, refused, faultless}
+use Rattle.sota_polfile.proofs.Replies.{unless_from, refused, faultless}
 use Rattle.sota_polfile.proofs.reading.read_row.Goals as goal
 
 pub returns-then-left-lt-ROW_HEAD : goal.returns-then-left-lt-ROW_HEAD
@@ -13,7 +14,7 @@ returns-then-left-lt-ROW_HEAD c =
 pub returns-in-Some : goal.returns-in-Some
 returns-in-Some c =
     let found : numbers_fault c.args.head.now c.args.before c.args.number (row_head_at c.args.bytes.now c.args.at) ≡ Some c.in-Some.fault = rw c.row_head_at-row.ensures at (sym c.in-Some.ensures) in
-    is_fault c.in-Some.fault _ (refused _ (row_at c.args.bytes.now c.args.at) _ (in_numbers c.args.bytes.now c.args.head.now c.args.at c.args.before c.args.number c.in-Some.fault found (omega arith)))
+    unless_from (is_shortage c.in-Some.fault) (refused _ (row_at c.args.bytes.now c.args.at) _ (in_numbers c.args.bytes.now c.args.head.now c.args.at c.args.before c.args.number c.in-Some.fault found (omega arith)))
 
 pub returns-then-whole-row : goal.returns-then-whole-row
 returns-then-whole-row c =

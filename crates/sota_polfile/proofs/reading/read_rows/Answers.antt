@@ -3,9 +3,10 @@ use Rattle.std.proofs.lemmas.Result.{err_from_is_err_and}
 use Rattle.std.proofs.lemmas.List.FromFn.{length-map-range_with_len, map-range_with_len_more}
 use Rattle.sota_polfile.specs.declared.row.PolicyRow.{PolicyRow}
 use Rattle.sota_polfile.specs.Places.{row_head_at, row_at, start, node_before}
-use Rattle.sota_polfile.specs.Faults.{row_fault, file_rows_fault}
+use Rattle.sota_polfile.specs.Words.{is_shortage}
+use Rattle.sota_polfile.specs.Faults.{row_fault}
 use Rattle.sota_polfile.proofs.Rows.{passes, start_after, node_before_after, file_rows_passed, file_rows_found, file_rows_done}
-use Rattle.sota_polfile.proofs.Replies.{or_fault_ok, is_fault_along, answered}
+use Rattle.sota_polfile.proofs.Replies.{fault_or_ok, fault_or_err, unless_more}
 use Rattle.sota_polfile.proofs.reading.read_rows.Goals as goal
 
 pub loop-k-init : goal.loop-k-init
@@ -22,7 +23,7 @@ returns-in_err-row-clause-fault c =
     let p = err_from_is_err_and c.from_residual.result c.from_residual.ensures.1 in
     let left : c.args.count - k ≡ suc (c.args.count - (k + 1)) = omega arith in
     let given = rw (c.requires.head, invariant.at, invariant.before) at c.in_err-row.ensures in
-    rw (p.1, p.2) (is_fault_along c.in_err-row.field-0.0 (row_fault bytes k) (file_rows_fault bytes 0 c.args.count) (λ fault found. sym invariant.so_far ∙ rw left (file_rows_found bytes k (c.args.count - (k + 1)) fault found)) (answered _ (row_fault bytes k) (row_at bytes (start bytes k)) given))
+    rw (p.1, p.2) (unless_more (is_shortage c.in_err-row.field-0.0) (λ refusal. sym invariant.so_far ∙ rw left (file_rows_found bytes k (c.args.count - (k + 1)) c.in_err-row.field-0.0 (fault_or_err (row_fault bytes k) (row_at bytes (start bytes k)) c.in_err-row.field-0.0 refusal))) given)
 
 pub loop-k-preserved : goal.loop-k-preserved
 loop-k-preserved c =
@@ -31,7 +32,7 @@ loop-k-preserved c =
     let invariant = c.loop-k.invariant in
     let row = c.in_ok-row.row in
     let given = rw (c.requires.head, invariant.at, invariant.before) at c.in_ok-row.ensures in
-    let read = or_fault_ok (row_fault bytes k) (row_at bytes (start bytes k)) row given in
+    let read = fault_or_ok (row_fault bytes k) (row_at bytes (start bytes k)) row given in
     let head = row_head_at bytes (start bytes k) in
     let pass = passes bytes _ (start bytes k) (node_before bytes k) (k + 1) read.0 in
     let node : head.node ≡ row.node = ap (λ (r : PolicyRow). r.node) read.1 in
@@ -47,8 +48,8 @@ loop-k-preserved c =
       so_far = sym (file_rows_passed bytes k (c.args.count - (k + 1)) read.0) ∙ rw left at invariant.so_far;
     }
 
-pub returns-clause-fault : goal.returns-clause-fault
-returns-clause-fault c =
+pub returns-clause-none : goal.returns-clause-none
+returns-clause-none c =
     let bytes = c.args.bytes.now in
     let nothing : c.args.count - c.loop-k.k ≡ 0 = omega arith in
     sym c.loop-k.invariant.so_far ∙ rw nothing (file_rows_done bytes c.loop-k.k)

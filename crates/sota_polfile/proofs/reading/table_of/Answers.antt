@@ -1,15 +1,15 @@
 use Rattle.std.proofs.Common.{◌≡◌, ℕ, ◌<◌, true, false, Ok, get_or, arith}
 use Rattle.std.specs.Prelude.{nat_eq}
 use Rattle.std.specs.List.{starts_with}
-use Rattle.std.specs.Result.{result_err}
 use Rattle.std.proofs.lemmas.Result.{err_from_is_err_and}
 use Rattle.sota_polfile.specs.declared.fault.PolicyFault.TheVariants.{Magic, Truncated, Range, Trailing}
 use Rattle.sota_polfile.specs.Table.{IsTable}
 use Rattle.sota_polfile.specs.Spelling.{magic}
 use Rattle.sota_polfile.specs.Places.{row_count, start}
-use Rattle.sota_polfile.specs.Faults.{is_head, file_rows_fault, policy_of}
+use Rattle.sota_polfile.specs.Faults.{is_head, policy_of}
 use Rattle.sota_polfile.proofs.Files.{found_table, policy_refused, not_magic, short_head, bad_head, bad_rows, more_bytes}
-use Rattle.sota_polfile.proofs.Replies.{is_fault_along}
+use Rattle.sota_polfile.specs.Words.{is_shortage}
+use Rattle.sota_polfile.proofs.Replies.{unless_more}
 use Rattle.sota_polfile.proofs.reading.table_of.Goals as goal
 use Rattle.sota_polfile.proofs.reading.table_of.Goals.{Else-end-bytes}
 
@@ -39,14 +39,14 @@ returns-in_err-rows c =
     let good : is_head c.head_at-head.result ≡ true = cc in
     let p = err_from_is_err_and c.from_residual.result c.from_residual.ensures.1 in
     let given = rw c.row_count.ensures at c.in_err-rows.ensures.fault in
-    rw (p.1, p.2) (is_fault_along c.in_err-rows.field-0.0 (file_rows_fault bytes 0 (row_count bytes)) (result_err (policy_of bytes)) (λ fault found. policy_refused bytes fault (bad_rows bytes fault begins (omega arith) (rw c.head_at-head.ensures at good) found)) given)
+    rw (p.1, p.2) (unless_more (is_shortage c.in_err-rows.field-0.0) (λ found. policy_refused bytes c.in_err-rows.field-0.0 (bad_rows bytes c.in_err-rows.field-0.0 begins (omega arith) (rw c.head_at-head.ensures at good) found)) given)
 
 pub returns-then-end-bytes : goal.returns-then-end-bytes
 returns-then-end-bytes c =
     let bytes = c.args.bytes.now in
     let begins : starts_with nat_eq bytes magic ≡ true = cc in
     let good : is_head c.head_at-head.result ≡ true = cc in
-    let none = rw c.row_count.ensures at c.in_ok-rows.ensures.fault in
+    let none = rw c.row_count.ensures at c.in_ok-rows.ensures.none in
     let end : c.in_ok-rows.end ≡ start bytes (row_count bytes) = rw c.row_count.ensures at c.in_ok-rows.ensures.end.0 in
     rw end (policy_refused bytes (Trailing (start bytes (row_count bytes))) (more_bytes bytes begins (omega arith) (rw c.head_at-head.ensures at good) none (omega arith)))
 
@@ -62,7 +62,7 @@ said c =
       in_range = cc;
       count_is = c.row_count.ensures;
       rows_are = c.in_ok-rows.ensures.rows;
-      none = c.in_ok-rows.ensures.fault;
+      none = c.in_ok-rows.ensures.none;
       end_is = c.in_ok-rows.ensures.end.0;
       ends = c.if-end-bytes.false;
     })
