@@ -146,12 +146,12 @@ class Session:
             Path(fields[4]).write_bytes(data)
             return f"stored {fields[4]}"
         arc = int(fields[1])
-        if not 1 <= arc <= len(self.network.arcs):
-            return f"refused {line} NoArc"
         halves = [each.split(":") for each in fields[2:]]
         pairs = [(int(tick), int(mass)) for tick, mass in halves]
         if sum(mass for _, mass in pairs) > self.network.scale:
             return f"refused {line} Sum"
+        if not 1 <= arc <= len(self.network.arcs):
+            return f"refused {line} NoArc"
         self.network.arcs[arc - 1].pairs = sorted(pair for pair in pairs if pair[1])
         self.grids.clear()
         return f"closed {arc}" if fields[0] == "close" else f"edited {arc}"
