@@ -10,7 +10,7 @@ pub take_next : (bytes : List ℕ) (done count : ℕ)
     → take (done + count) bytes ≡ take done bytes ++ take count (take (length bytes - done) (drop done bytes))
 take_next bytes done count = take-add done count bytes
     ∙ ap (λ rest. take done bytes ++ take count rest)
-      (sym (take_all (length bytes - done) (drop done bytes) (omega (arith, length-drop done bytes))))
+    (sym (take_all (length bytes - done) (drop done bytes) (omega (arith, length-drop done bytes))))
 
 pub appends_more : (a b c : Option (List ℕ)) (bytes : List ℕ) (done count : ℕ)
     → Appends a b (take done bytes)
@@ -29,7 +29,7 @@ pub consumes_more : (a b c : Option (List ℕ)) (xs ys : List ℕ) (done count :
     → Consumes b c (take count (drop done ys)) → Consumes a c (take (done + count) ys)
 consumes_more a b c xs ys done count before same step =
     subst (Consumes a c) (ap (λ front. front ++ take count (drop done ys)) (sym same) ∙ sym (take-add done count ys))
-      (Consumes-trans a b c _ _ before step)
+    (Consumes-trans a b c _ _ before step)
 
 at_most : (n : ℕ) (xs : List ℕ) (done : ℕ) → done ≤ n → done ≤ length xs → done ≤ length (take n xs)
 at_most n xs done below within = omega (arith, length-take n xs, below, within)

@@ -113,8 +113,13 @@ fn write_made<F: Write + Drop>(made: io::Result<F>, bytes: &[u8]) -> io::Result<
 impl<'a, R: Files> FileDesk<'a, R> {
     /// A desk over the files of this runtime. Nothing is counted yet.
     pub fn new(rt: &'a R) -> Self
-        ensures { file_state result.counts ≡ record { holds = None; fault_name = None;
-            load_faults = 0; store_faults = 0; taken = 0 } }
+        ensures { file_state result.counts ≡ record {
+          holds = None;
+          fault_name = None;
+          load_faults = 0;
+          store_faults = 0;
+          taken = 0;
+        } }
     {
         let counts = Counts {
             fault_name: None,
@@ -133,13 +138,15 @@ impl<R: Files> Desk for FileDesk<'_, R> {
         let Ok(copy) = String::from_str(alloc, name) else {
             return Err(LoadError::NoMemory);
         };
-        self.counts.load_from(File::open(self.rt, name), alloc, copy, limit)
+        self.counts
+            .load_from(File::open(self.rt, name), alloc, copy, limit)
     }
 
     fn store(&mut self, alloc: Global, name: &str, bytes: &[u8]) -> Result<(), StoreError> {
         let Ok(copy) = String::from_str(alloc, name) else {
             return Err(StoreError::NoMemory);
         };
-        self.counts.store_to(File::create(self.rt, name), copy, bytes)
+        self.counts
+            .store_to(File::create(self.rt, name), copy, bytes)
     }
 }

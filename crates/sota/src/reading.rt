@@ -36,11 +36,7 @@ fn read_at<R: Read>(reader: &mut R, bytes: &mut [u8], at: usize) -> io::Result<u
 }
 
 /// The bytes of a reader to its end, at most `limit`. Each turn reads a byte at least, or ends.
-pub fn read_all<R: Read>(
-    reader: &mut R,
-    alloc: Global,
-    limit: u32,
-) -> Result<Vec<u8>, LoadError>
+pub fn read_all<R: Read>(reader: &mut R, alloc: Global, limit: u32) -> Result<Vec<u8>, LoadError>
     ensures { FileAnswer (λ bytes. bytes.items) result (R.remaining reader.old) limit }
 {
     let most = limit as usize + 1;

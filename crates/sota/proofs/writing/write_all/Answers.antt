@@ -4,9 +4,13 @@ use Rattle.sota.proofs.writing.write_all.Goals as goal
 
 pub loop-done-preserved : goal.loop-done-preserved
 loop-done-preserved g c = record {
-  within = omega (arith, c.in_ok-count.ensures.bound, c.loop-done.invariant.within,
+  within = omega (
+    arith,
+    c.in_ok-count.ensures.bound,
+    c.loop-done.invariant.within,
     length-take-le (length c.args.bytes.now - c.loop-done.done) (drop c.loop-done.done c.args.bytes.now),
-    length-drop c.loop-done.done c.args.bytes.now);
+    length-drop c.loop-done.done c.args.bytes.now,
+  );
   wrote = appends_more _ _ _ c.args.bytes.now c.loop-done.done c.in_ok-count.count
-    c.loop-done.invariant.wrote c.in_ok-count.ensures.bytes;
+      c.loop-done.invariant.wrote c.in_ok-count.ensures.bytes;
 }
