@@ -3,7 +3,7 @@ ghost use Rattle.std.specs.Prelude.{◌≡◌, ◌*◌, ◌^◌, ◌≤◌, ◌�
 ghost use Rattle.sota_units.specs.Rounding.{ONE};
 ghost use Rattle.sota_network.specs.Network.{IsNet};
 ghost use Rattle.sota_network.specs.Trees.{Fits, follow, score};
-ghost use Rattle.sota_polfile.specs.Table.{IsRow};
+ghost use Rattle.sota_polfile.specs.Table.{IsRow, IsTable};
 ghost use Rattle.sota_check.specs.Certified.{value, rule, IsCertified};
 ghost use Rattle.sota_check.specs.Rejected.{entry_fault, entries_fault, rows_fault, rejection};
 
@@ -99,11 +99,11 @@ fn first_fault(network: &Network, table: &PolicyTable) -> Option<Rejection>
 
 /// The first entry of a row that does not hold.
 fn row_fault(network: &Network, table: &PolicyTable, row: &PolicyRow) -> Option<Rejection>
-    requires { IsRow table.now.head row.now }
+    requires table { IsTable table.now }
+    requires row { IsRow table.now.head row.now }
     ensures { result ≡ entries_fault network.now (value table.now)
         row.now.node row.now.first row.now.entries }
 {
-    let _head = table.head();
     let mut near = 0;
     for (index, entry) in row.entries.as_slice().iter().enumerate() {
         let budget = row.first + index as u32;
