@@ -1,14 +1,11 @@
 -- The rule of a policy that holds keeps up its values.
-use Rattle.std.proofs.Common.{ℕ, ◌≡◌, ◌*◌, ◌^◌, ◌<◌, ◌≤◌, Option, Some, None, inl, inr, refl, ◌∙◌, ap, arith, option_and_then}
+use Rattle.std.proofs.Common.{ℕ, ◌≡◌, ◌*◌, ◌<◌, ◌≤◌, Option, Some, None, inl, inr, refl, ◌∙◌, ap, arith, option_and_then}
 use Rattle.std.proofs.lemmas.Bool.{eq-eqb, ne_eqb}
 use Rattle.sota_units.specs.Rounding.{ONE}
-use Rattle.sota_network.specs.Network.{Net, IsNet, arc_at}
+use Rattle.sota_network.specs.Network.{Net, arc_at}
 use Rattle.sota_network.specs.Grid.{plain_sum}
 use Rattle.sota_network.specs.Sound.{Sound}
 use Rattle.sota_network.specs.declared.network.Arc.{Arc}
-use Rattle.sota_network.specs.Trees.{follow, score}
-use Rattle.sota_network.proofs.Attained.{sound-attained}
-use Rattle.sota_network.proofs.Gap.{sound-whole}
 use Rattle.sota_polfile.specs.Table.{Table, entry_of}
 use Rattle.sota_polfile.specs.declared.entry.PolicyEntry.{PolicyEntry}
 use Rattle.sota_check.specs.Certified.{value, value_or_zero, rule, arc_of, Holds, IsCertified}
@@ -44,10 +41,3 @@ module _ (net : Net) (table : Table) (c : IsCertified net table) where
     at_dest = λ t. omega (arith, value-dest table table.head.dest t refl);
     elsewhere = λ i t off positive. kept i t off positive (entry_of table i t) refl;
   }
-
-module _ (net : Net) (valid : IsNet net) (table : Table) (c : IsCertified net table) (i t : ℕ) where
-  pub attains : value table i t * net.scale ^ t ≤ ONE * score net table.head.dest i t (follow net (rule table) table.head.dest i t)
-  attains = sound-attained net valid table.head.dest (value table) (rule table) (sound net table c) i t
-
-  pub at_most_whole : value table i t ≤ ONE
-  at_most_whole = sound-whole net valid table.head.dest (value table) (rule table) (sound net table c) i t

@@ -1,30 +1,57 @@
 -- The planner's own policy holds.
-use Rattle.std.proofs.Common.{ℕ, ◌≡◌, ◌≢◌, ◌+◌, ◌-◌, ◌*◌, ◌<◌, ◌≤◌, ◌⊎◌, inl, inr, Bool, true, false, not, ◌&&◌, ◌==◌, nat_le, get_or, Option, Some, None, unwrap_or, refl, sym, ◌∙◌, ap, arith, ⊎_elim, subst, length, slice_get}
-use Rattle.std.proofs.lemmas.Bool.{cases_eq, cases_lt, cases_Bool, eqb-false, and_parts, not-true, true≢false, ne_eqb, le-leb, and_from, leb-true}
+use Rattle.std.proofs.Common.{ℕ, suc, ◌≡◌, ◌≢◌, ◌+◌, ◌-◌, ◌*◌, ◌<◌, ◌≤◌, ◌⊎◌, inl, inr, Bool, true, false, not, ◌&&◌, ◌==◌, nat_le, Option, Some, None, unwrap_or, refl, sym, ◌∙◌, ap, arith, ⊎_elim, subst, length, slice_get}
+use Rattle.std.proofs.lemmas.Bool.{cases_eq, cases_lt, cases_Bool, eqb-false, eqb-true, and_parts, not-true, true≢false, eq-eqb, ne_eqb, le-leb, and_from, leb-true}
+use Rattle.std.proofs.lemmas.Option.{slice_get_cases, slice_get_within}
 use Rattle.std.proofs.Math.Nat.{div-mul-le_self, zero-div}
 use Rattle.sota_units.specs.Rounding.{floor_by}
-use Rattle.sota_network.specs.Network.{Net, IsNet, arc_at}
-use Rattle.sota_network.specs.Grid.{plain_sum, best_sum, lo, choice}
-use Rattle.sota_network.specs.Walks.{empty}
+use Rattle.sota_network.specs.Network.{Net, arc_at}
+use Rattle.sota_network.specs.Grid.{plain_sum, best_sum, value_from, lo, hi, choice, choice_of}
+use Rattle.sota_network.specs.Walks.{Walk, empty, IsLeastTime}
 use Rattle.sota_network.specs.Reach.{reaches, in_region}
+use Rattle.sota_network.specs.Reads.{Reads}
+use Rattle.sota_network.specs.Region.{is_between}
 use Rattle.sota_network.specs.declared.network.Arc.{Arc}
-use Rattle.sota_network.proofs.Outward.{lo-at_dest, lo-elsewhere}
-use Rattle.sota_network.proofs.Attained.{choice-none, choice-found}
-use Rattle.sota_network.proofs.Reaching.{walk-reaches}
-use Rattle.sota_network.proofs.Cells.{inside-is}
+use Rattle.sota_network.proofs.Best.{best-attained, first-finds}
 use Rattle.sota_polfile.specs.declared.entry.PolicyEntry.{PolicyEntry}
-use Rattle.std.proofs.lemmas.Option.{slice_get_cases, slice_get_within}
 use Rattle.sota_polfile.specs.declared.row.PolicyRow.{PolicyRow}
 use Rattle.sota_polfile.specs.declared.head.PolicyHead.{PolicyHead}
-use Rattle.sota_polfile.specs.Table.{Table, IsTable, entry_of}
+use Rattle.sota_polfile.specs.Table.{Table, entry_of}
 use Rattle.sota_check.specs.Certified.{value, Holds, IsCertified}
 use Rattle.sota_check.specs.Planned.{grid_entry, entry_if, ask_head, IsPlanned, AreGridRows, IsGridRow, IsPlanFile}
-use Rattle.sota_network.proofs.Walking.{region-closed}
-use Rattle.sota_check.proofs.Closing.{weighed-same, reads-at, lo-none}
-use Rattle.sota_polfile.proofs.InRows.{entry-there, entry-only}
+use Rattle.sota_check.proofs.Judged.{AreEntries, StandInRows}
 use Rattle.sota_check.proofs.Keeping.{value-dest, value-elsewhere}
 
-module _ (net : Net) (valid : IsNet net) (origin dest last : ℕ) (table : Table) (plan : IsPlanned net origin dest last table) where
+-- what the laws of networks say of the lower grid of an ask
+pub record IsGrid (net : Net) (origin dest last : ℕ) : Type 0 where
+  pub lower : (i t : ℕ) → lo net dest i t ≡ value_from floor_by net dest (lo net dest) i t
+  pub order : (i t : ℕ) → lo net dest i t ≤ hi net dest i t
+  pub below : (i t : ℕ) → reaches net dest dest i t ≡ false → hi net dest i t ≡ 0
+  pub reach : (i j t n : ℕ) → Walk net dest i j n → n ≤ t → reaches net dest j i t ≡ true
+  pub made : (i t : ℕ) (table : ℕ → ℕ → ℕ) → i ≢ dest → ((j u : ℕ) → Reads net i t j u → table j u ≡ lo net dest j u) → lo net dest i t ≡ floor_by net.scale (best_sum net table i t)
+  pub chosen : (i t : ℕ) (table : ℕ → ℕ → ℕ) → i ≢ dest → ((j u : ℕ) → Reads net i t j u → table j u ≡ lo net dest j u) → choice net dest i t ≡ choice_of net.arcs (λ arc. plain_sum arc table t) i
+  pub closed : (i t j u : ℕ) → in_region net origin dest last i t ≡ true → Reads net i t j u → (j ≡ dest) ⊎ ((in_region net origin dest last j u ≡ true) ⊎ (reaches net dest dest j u ≡ false))
+
+-- what is chosen among the arcs of a node by any values at their heads
+module _ (net : Net) (f : ℕ → ℕ → ℕ) (i t : ℕ) where
+  chosen-none : best_sum net f i t ≡ 0 → choice_of net.arcs (λ (b : Arc). plain_sum b f t) i ≡ None
+  chosen-none h = rw (eq-eqb _ 0 h) refl
+
+  chosen-best : 0 < best_sum net f i t
+      → (e : ℕ) × (a : Arc) × (choice_of net.arcs (λ (b : Arc). plain_sum b f t) i ≡ Some e) × (arc_at net e ≡ Some a) × (a.tail ≡ i) × (plain_sum a f t ≡ best_sum net f i t)
+  chosen-best h =
+      let found = best-attained (λ b. plain_sum b f t) i net.arcs h in
+      let k = found.0 in
+      let a = found.1 in
+      let test : Arc → Bool = λ b. (b.tail == i) && (plain_sum b f t == best_sum net f i t) in
+      let passes : test a ≡ true = and_from (a.tail == i) (plain_sum a f t == best_sum net f i t) (eq-eqb a.tail i found.3) (eq-eqb _ _ found.4) in
+      let first = first-finds test 1 k a net.arcs found.2 passes in
+      let b = first.1 in
+      let parts = and_parts (b.tail == i) (plain_sum b f t == best_sum net f i t) first.4 in
+      let number : 1 + first.0 ≡ suc first.0 = omega arith in
+      let ne : best_sum net f i t ≡ 0 → ⊥ = λ z. omega arith in
+      (suc first.0, b, rw (ne_eqb _ 0 ne) (first.2 ∙ ap Some number), first.3, eqb-true _ _ parts.0, eqb-true _ _ parts.1)
+
+module _ (net : Net) (origin dest last : ℕ) (table : Table) (grid : IsGrid net origin dest last) (plan : IsPlanned net origin dest last table) where
   dest-is : table.head.dest ≡ dest
   dest-is = ap (λ (h : PolicyHead). h.dest) plan.head
 
@@ -54,10 +81,11 @@ module _ (net : Net) (valid : IsNet net) (origin dest last : ℕ) (table : Table
       (λ (inside : in_region net origin dest last i t ≡ true). absurd (true≢false (sym (region-parts i t inside).1 ∙ late)))
       (λ (outside : in_region net origin dest last i t ≡ false). outside)
       (cases_Bool (in_region net origin dest last i t)) in
-      value-elsewhere table i t (apart i off) None (value-at i t off false out) ∙ sym (lo-none net valid dest i t late)
+      let none : lo net dest i t ≡ 0 = omega (arith, grid.order i t, grid.below i t late) in
+      value-elsewhere table i t (apart i off) None (value-at i t off false out) ∙ sym none
 
   value-whole : (i t : ℕ) → i ≡ dest → value table i t ≡ lo net dest i t
-  value-whole i t at = value-dest table i t (at ∙ sym dest-is) ∙ sym (lo-at_dest net valid dest i t at)
+  value-whole i t at = value-dest table i t (at ∙ sym dest-is) ∙ sym (grid.lower i t ∙ (rw (eq-eqb i dest at) refl))
 
   -- what an entry of the region reads
   read-same : (i t : ℕ) → (i ≡ dest) ⊎ ((in_region net origin dest last i t ≡ true) ⊎ (reaches net dest dest i t ≡ false)) → value table i t ≡ lo net dest i t
@@ -65,32 +93,26 @@ module _ (net : Net) (valid : IsNet net) (origin dest last : ℕ) (table : Table
   read-same i t (inr (inl inside)) = value-inside i t inside
   read-same i t (inr (inr late)) = ⊎_elim (λ (at : i ≡ dest). value-whole i t at) (λ (off : i ≡ dest → ⊥). value-none i t off late) (cases_eq i dest)
 
-  sum-same : (i t e : ℕ) (a : Arc) → in_region net origin dest last i t ≡ true → arc_at net e ≡ Some a → a.tail ≡ i → plain_sum a (value table) t ≡ plain_sum a (lo net dest) t
-  sum-same i t e a inside number tail =
-      weighed-same (value table a.head) (lo net dest a.head) t a.time
-      (λ q d within le. read-same a.head (t - (get_or a.time q d).0) (region-closed net valid i t a.head (t - (get_or a.time q d).0) (reads-at net i t e a q d number tail within le) origin dest last inside))
+  reads-same : (i t : ℕ) → in_region net origin dest last i t ≡ true → (j u : ℕ) → Reads net i t j u → value table j u ≡ lo net dest j u
+  reads-same i t inside j u reads = read-same j u (grid.closed i t j u inside reads)
 
   holds-inside : (i t : ℕ) → in_region net origin dest last i t ≡ true → Holds net table i t (grid_entry net dest i t)
   holds-inside i t inside =
       let off : i ≢ dest = (region-parts i t inside).0 in
-      let is : lo net dest i t ≡ floor_by net.scale (best_sum net (lo net dest) i t) = lo-elsewhere net valid dest i t off in
+      let sum : ℕ = best_sum net (value table) i t in
+      let is : lo net dest i t ≡ floor_by net.scale sum = grid.made i t (value table) off (reads-same i t inside) in
+      let chosen = grid.chosen i t (value table) off (reads-same i t inside) in
       ⊎_elim
-      (λ (positive : 0 < best_sum net (lo net dest) i t).
-      let found = choice-found net dest i t off positive in
-      let a : Arc = found.1 in
-      let number : unwrap_or (choice net dest i t) 0 ≡ found.0 = ap (λ (o : Option ℕ). unwrap_or o 0) found.2 in
-      let below : floor_by net.scale (best_sum net (lo net dest) i t) * net.scale ≤ best_sum net (lo net dest) i t = div-mul-le_self (best_sum net (lo net dest) i t) net.scale in
-      inr (
-        a,
-        ap (arc_at net) number ∙ found.3,
-        found.4,
-        (rw (sum-same i t found.0 a inside found.3 found.4, found.5, is) below),
-      ))
-      (λ (nothing : best_sum net (lo net dest) i t ≤ 0).
-      let zero-sum : best_sum net (lo net dest) i t ≡ 0 = omega arith in
-      let none : choice net dest i t ≡ None = choice-none net dest i t zero-sum in
+      (λ (positive : 0 < sum).
+      let found = chosen-best net (value table) i t positive in
+      let number : unwrap_or (choice net dest i t) 0 ≡ found.0 = ap (λ (o : Option ℕ). unwrap_or o 0) (chosen ∙ found.2) in
+      let below : floor_by net.scale sum * net.scale ≤ sum = div-mul-le_self sum net.scale in
+      inr (found.1, ap (arc_at net) number ∙ found.3, found.4, (rw (found.5, is) below)))
+      (λ (nothing : sum ≤ 0).
+      let zero-sum : sum ≡ 0 = omega arith in
+      let none : choice net dest i t ≡ None = chosen ∙ chosen-none net (value table) i t zero-sum in
       inl (ap (λ (o : Option ℕ). unwrap_or o 0) none, is ∙ ap (floor_by net.scale) zero-sum ∙ zero-div net.scale))
-      (cases_lt 0 (best_sum net (lo net dest) i t))
+      (cases_lt 0 sum)
 
   entry-holds : (i t : ℕ) (entry : PolicyEntry) → (b : Bool) → in_region net origin dest last i t ≡ b → entry_if b (grid_entry net dest i t) ≡ Some entry → Holds net table i t entry
   entry-holds i t entry true inside at =
@@ -108,7 +130,7 @@ module _ (net : Net) (valid : IsNet net) (origin dest last : ℕ) (table : Table
   -- the origin with the whole budget is in the region, where the destination is reached in time
   origin-inside : origin ≢ dest → reaches net dest dest origin last ≡ true → in_region net origin dest last origin last ≡ true
   origin-inside off goes =
-      let here : reaches net dest origin origin (last - last) ≡ true = walk-reaches net valid dest (empty {i = origin}) (last - last) (let z : 0 ≤ last - last = omega arith in z) in
+      let here : reaches net dest origin origin (last - last) ≡ true = grid.reach origin origin (last - last) 0 (empty {i = origin}) (omega arith) in
       let in_time : nat_le last last ≡ true = le-leb last last (let z : last ≤ last = omega arith in z) in
       rw (ne_eqb origin dest off, in_time, goes, here) refl
 
@@ -123,10 +145,10 @@ module _ (net : Net) (valid : IsNet net) (origin dest last : ℕ) (table : Table
       (cases_Bool (reaches net dest dest origin last)))
       (cases_eq origin dest)
 
-module _ (net : Net) (origin dest last : ℕ) (table : Table) (valid : IsTable table) (rows : AreGridRows net origin dest last table.rows) where
+module _ (net : Net) (origin dest last : ℕ) (table : Table) (are : AreEntries table) (stand : StandInRows table) (rows : AreGridRows net origin dest last table.rows) where
   entry-by : (i t : ℕ) (o : Option PolicyEntry) → entry_of table i t ≡ o → o ≡ entry_if (in_region net origin dest last i t) (grid_entry net dest i t)
   entry-by i t (Some entry) at =
-      let only = entry-only table i t entry at in
+      let only = stand i t entry at in
       let row : PolicyRow = only.1 in
       let made = rows.inside only.0 only.2 row entry only.3 only.6 in
       let node : row.node ≡ i = only.4 in
@@ -141,7 +163,7 @@ module _ (net : Net) (origin dest last : ℕ) (table : Table) (valid : IsTable t
       let row : PolicyRow = covered.1 in
       elim (slice_get_cases row.entries covered.2).1 [
         | inl here ↦
-            let there : entry_of table row.node (row.first + covered.2) ≡ Some here.0 = entry-there table valid covered.0 covered.2 row here.0 covered.3 here.2 in
+            let there : entry_of table row.node (row.first + covered.2) ≡ Some here.0 = are covered.0 covered.2 row here.0 covered.3 here.2 in
             let moved : entry_of table i t ≡ Some here.0 = ap (λ (x : ℕ). entry_of table x t) (sym covered.4) ∙ ap (entry_of table row.node) covered.5 ∙ there in
             absurd (cc)
         | inr past ↦ absurd (omega (arith, covered.6, past.0))
@@ -153,9 +175,11 @@ module _ (net : Net) (origin dest last : ℕ) (table : Table) (valid : IsTable t
   plan-made head = record { head = head; entries = λ i t. entry-by i t (entry_of table i t) refl }
 
 -- the rows of a planner's file are the grid's
-module _ (net : Net) (valid : IsNet net) (origin dest last : ℕ) (table : Table) (file : IsPlanFile net origin dest last table) where
+module _ (net : Net) (origin dest last : ℕ) (table : Table)
+    (between : (i t : ℕ) (to since : Option ℕ) → i ≢ dest → IsLeastTime net dest i dest to → IsLeastTime net dest origin i since → in_region net origin dest last i t ≡ is_between last to since t)
+    (file : IsPlanFile net origin dest last table) where
   row-region : (row : PolicyRow) (is : IsGridRow net origin dest last row) (t : ℕ) → in_region net origin dest last row.node t ≡ (nat_le row.first t && nat_le (t + is.back) last)
-  row-region row is t = inside-is net valid origin dest last row.node (Some row.first) (Some is.back) is.elsewhere is.onward is.came t
+  row-region row is t = between row.node t (Some row.first) (Some is.back) is.elsewhere is.onward is.came
 
   row-inside : (row : PolicyRow) → IsGridRow net origin dest last row → (j : ℕ) (entry : PolicyEntry) → slice_get row.entries j ≡ Some entry
       → (in_region net origin dest last row.node (row.first + j) ≡ true) × (entry ≡ grid_entry net dest row.node (row.first + j))

@@ -10,8 +10,8 @@ ghost use Rattle.sota_check.specs.Rejected.{entry_fault, entries_fault, rows_fau
 use crate::sums::{arc_sum, needed};
 use crate::{Certified, Rejection};
 use sota_network::Network;
-use sota_network::laws::{grid_encloses, sound_values};
-use sota_polfile::{PolicyEntry, PolicyRow, PolicyTable};
+use sota_network::laws::{arcs_by_number, grid_encloses, sound_values};
+use sota_polfile::{PolicyEntry, PolicyRow, PolicyTable, entries_stand_in_rows};
 use sota_units::{ArcId, Grain, NodeId};
 
 /// Whether each entry of a policy holds on a network. It takes no memory. An entry costs the pairs
@@ -32,6 +32,7 @@ pub fn check(network: &Network, table: &PolicyTable) -> Result<Certified, Reject
         (follow network.now (rule table.now) c.dest c.origin c.budget)) }
     ensures whole { IfOk result (λ c. c.lower ≤ ONE) }
 {
+    entries_stand_in_rows();
     let head = table.head();
     if head.nodes != network.nodes() {
         return Err(Rejection::Size);
@@ -125,6 +126,7 @@ fn entry_fault(
 ) -> Option<Rejection>
     ensures { result ≡ entry_fault network.now (value table.now) node budget entry }
 {
+    arcs_by_number();
     if entry.arc == 0 {
         return if entry.value == 0 {
             None

@@ -1,5 +1,5 @@
-// What is true of the definitions themselves. The functions do nothing: their contracts are the
-// theorems.
+// What is true of the definitions themselves. The functions do nothing but name the laws that they
+// rest on: their contracts are the theorems.
 ghost use Rattle.std.specs.Prelude.{ℕ, ◌≡◌, ◌*◌, ◌^◌, ◌≤◌, None, Some};
 ghost use Rattle.sota_units.specs.Rounding.{ONE};
 ghost use Rattle.sota_network.specs.Network.{Net, IsNet};
@@ -13,6 +13,12 @@ ghost use Rattle.sota_check.specs.Examples.{triangle_policy};
 ghost use Rattle.sota_check.specs.declared.verdict.Rejection.TheVariants.{Value};
 ghost use Rattle.sota_check.specs.Planned.{IsPlanned, AreGridRows, IsPlanFile, ask_head};
 
+use sota_network::laws::{
+    entries_of_reads, grid_encloses, grid_recurs, reaches_by_walks, region_by_least_times,
+    region_closes, sound_values,
+};
+use sota_polfile::entries_stand_in_rows;
+
 /// The tree of a policy that holds attains its value at every node and budget, and no value is more
 /// than one whole.
 pub fn certified_attains()
@@ -21,7 +27,9 @@ pub fn certified_attains()
         (follow net (rule table) table.head.dest i t) }
     ensures whole { (net : Net) (table : Table) (i t : ℕ) → IsNet net → IsCertified net table
         → value table i t ≤ ONE }
-{}
+{
+    sound_values();
+}
 
 /// The planner's file, and rows of the grid's entries, make the planner's policy.
 pub fn rows_make_plans()
@@ -30,7 +38,10 @@ pub fn rows_make_plans()
     ensures rows { (net : Net) (origin dest last : ℕ) (table : Table) → IsTable table
         → table.head ≡ ask_head net origin dest last
         → AreGridRows net origin dest last table.rows → IsPlanned net origin dest last table }
-{}
+{
+    entries_stand_in_rows();
+    region_by_least_times();
+}
 
 /// The planner's own policy holds, and the value that it names is the lower value of its ask.
 pub fn plans_hold()
@@ -38,7 +49,13 @@ pub fn plans_hold()
         → IsPlanned net origin dest last table → IsCertified net table }
     ensures bound { (net : Net) (origin dest last : ℕ) (table : Table) → IsNet net
         → IsPlanned net origin dest last table → value table origin last ≡ lo net dest origin last }
-{}
+{
+    grid_recurs();
+    grid_encloses();
+    reaches_by_walks();
+    entries_of_reads();
+    region_closes();
+}
 
 /// The definitions, computed for a policy of the triangle from 1 to 3 in 3 ticks, as it is and with
 /// one value raised by one unit.

@@ -16,11 +16,11 @@ pub certified-requires-clause-certified : goal.certified-requires-clause-certifi
 certified-requires-clause-certified c =
     let nodes : c.args.table.now.head.nodes ≡ c.args.network.now.nodes = ap (λ (h : PolicyHead). h.nodes) (sym c.head-head.ensures.value) ∙ c.if-head-nodes.false ∙ c.nodes.ensures.value in
     let scale : c.args.table.now.head.scale ≡ c.args.network.now.scale = ap (λ (h : PolicyHead). h.scale) (sym c.head-head.ensures.value) ∙ c.if-head-get.false ∙ c.get.ensures.value ∙ c.scale.ensures.value in
-    certified-if c.args.network.now c.args.table.now nodes scale (sym c.in-None.ensures)
+    certified-if c.args.network.now c.args.table.now (c.entries_stand_in_rows.ensures.only c.args.table.now) nodes scale (sym c.in-None.ensures)
 
 pub returns-in-Some-clause-certified : goal.returns-in-Some-clause-certified
 returns-in-Some-clause-certified c =
-    (λ no. absurd (cc), λ holds. absurd (let none = only-if c.args.network.now c.args.table.now c.head-head.ensures.valid holds in let some = c.in-Some.ensures in cc))
+    (λ no. absurd (cc), λ holds. absurd (let none = only-if c.args.network.now c.args.table.now (λ k j row entry at here. c.entries_stand_in_rows.ensures.there c.args.table.now k j row entry c.head-head.ensures.valid at here) holds in let some = c.in-Some.ensures in cc))
 
 pub returns-in-Some-clause-first : goal.returns-in-Some-clause-first
 returns-in-Some-clause-first c =
@@ -32,4 +32,4 @@ pub returns-in-None-clause-certified : goal.returns-in-None-clause-certified
 returns-in-None-clause-certified c =
     let nodes : c.args.table.now.head.nodes ≡ c.args.network.now.nodes = ap (λ (h : PolicyHead). h.nodes) (sym c.head-head.ensures.value) ∙ c.if-head-nodes.false ∙ c.nodes.ensures.value in
     let scale : c.args.table.now.head.scale ≡ c.args.network.now.scale = ap (λ (h : PolicyHead). h.scale) (sym c.head-head.ensures.value) ∙ c.if-head-get.false ∙ c.get.ensures.value ∙ c.scale.ensures.value in
-    (λ yes. certified-if c.args.network.now c.args.table.now nodes scale (sym c.in-None.ensures), λ holds. refl)
+    (λ yes. certified-if c.args.network.now c.args.table.now (c.entries_stand_in_rows.ensures.only c.args.table.now) nodes scale (sym c.in-None.ensures), λ holds. refl)

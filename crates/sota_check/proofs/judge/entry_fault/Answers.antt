@@ -1,6 +1,5 @@
 use Rattle.std.proofs.Common.{ℕ, ◌≡◌, ◌*◌, Some, sym, ◌∙◌, ap, arith}
 use Rattle.sota_network.specs.Network.{arc_at, IsArc}
-use Rattle.sota_network.proofs.Recursion.{arc-valid}
 use Rattle.sota_check.specs.Certified.{value}
 use Rattle.sota_check.proofs.Judged.{idle-fault, empty-fault, lost-fault, astray-fault, short-fault, held-fault}
 use Rattle.sota_check.proofs.judge.entry_fault.Goals as goal
@@ -21,7 +20,7 @@ returns-then-get-node c =
 pub arc_sum-requires : goal.arc_sum-requires
 arc_sum-requires c =
     let is : arc_at c.args.network.now c.args.entry.arc ≡ Some c.in-Some.arc.now = sym c.in-Some.ensures.value in
-    let valid : IsArc c.args.network.now c.in-Some.arc.now = arc-valid c.args.network.now c.scale.ensures.valid c.args.entry.arc c.in-Some.arc.now is in
+    let valid : IsArc c.args.network.now c.in-Some.arc.now = c.arcs_by_number.ensures c.args.network.now c.args.entry.arc c.in-Some.arc.now c.scale.ensures.valid is in
     omega (arith, valid.total, c.needed-needed.ensures.limit, c.scale.ensures.value)
 
 pub returns-then-arc_sum-needed : goal.returns-then-arc_sum-needed
