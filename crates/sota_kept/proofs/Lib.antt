@@ -1,0 +1,16 @@
+pub mod Networks
+pub mod Bests
+pub mod Alike
+pub mod Walking
+pub mod Counting
+pub mod Changed
+pub mod Affecting
+pub mod Edited
+pub mod Standing
+pub mod Filling
+pub mod Preparing
+pub mod Answering
+pub mod Stating
+pub mod Holding
+pub mod Ending
+pub mod Choosing

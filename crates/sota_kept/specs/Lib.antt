@@ -1,0 +1,8 @@
+pub mod Ticks
+pub mod Edits
+pub mod NodeTables
+pub mod States
+pub mod TableLists
+pub mod Asks
+pub mod Worths
+pub mod Laws
