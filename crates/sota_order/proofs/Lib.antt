@@ -1,0 +1,5 @@
+pub mod Numbered
+pub mod Reaching
+pub mod Turning
+pub mod Nexting
+pub mod ThreeRoads
