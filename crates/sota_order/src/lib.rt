@@ -3,6 +3,7 @@
 //! Blandin and Bayen 2012).
 #![tactic(auto)]
 
+pub mod laws;
 mod order;
 
 pub use order::{Extent, Order};
