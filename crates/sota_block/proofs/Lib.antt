@@ -1,7 +1,11 @@
 pub mod Convolution
 pub mod Crossed
+pub mod Crossings
+pub mod Eight
 pub mod Filled
 pub mod Folding
 pub mod Halves
 pub mod Limits
+pub mod Meetings
+pub mod Partners
 pub mod Sums

@@ -19,6 +19,19 @@ pub fn scratch_len(len: usize) -> usize
     len * 3
 }
 
+/// How many multiplications `product_fold` takes for blocks of this length.
+pub fn fold_products(len: usize) -> usize
+    requires { IsBlockLength len }
+    ensures count { (r : ℕ) → len ≡ 2 ^ r → result ≡ fold_count r }
+    ensures within { result ≤ len * len }
+{
+    if len <= PLAIN_LENGTH {
+        len * len
+    } else {
+        3 * fold_products(len / 2)
+    }
+}
+
 /// The product of two blocks, by folding (Karatsuba): the middle coefficients come from one product
 /// of the halves' sums. What the lent slices hold afterwards is open.
 pub fn product_fold<M: Ledger>(

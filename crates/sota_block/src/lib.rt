@@ -1,12 +1,18 @@
 //! Products of blocks of masses and table values, by whole numbers alone.
 #![tactic(auto)]
 
+mod dense;
+mod eights;
 mod fold;
+mod lanes;
 mod laws;
+mod narrow;
 mod plain;
 #[cfg(test)]
 mod tests;
+mod wide;
 
-pub use fold::{product_fold, scratch_len};
+pub use eights::add_block;
+pub use fold::{fold_products, product_fold, scratch_len};
 pub use laws::{first_fold_counts, worked_coefficients};
 pub use plain::product_plain;

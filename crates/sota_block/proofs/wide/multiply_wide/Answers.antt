@@ -2,7 +2,7 @@ use Rattle.std.proofs.Common.{◌+◌, length, arith}
 use Rattle.sota_block.specs.Product.{coefficient}
 use Rattle.sota_block.proofs.Crossed.{near_is, far_is}
 use Rattle.sota_block.proofs.Filled.{filled_more}
-use Rattle.sota_block.proofs.plain.multiply.Goals as goal
+use Rattle.sota_block.proofs.wide.multiply_wide.Goals as goal
 
 pub loop-k-preserved : goal.loop-k-preserved
 loop-k-preserved g c =

@@ -1,6 +1,6 @@
 use Rattle.std.proofs.Common.{◌≡◌, ℕ, ◌+◌, ◌*◌, ◌<◌, slice_index}
 use Rattle.sota_block.specs.Product.{coefficient}
-use Rattle.sota_block.proofs.plain.multiply.Given as goal
+use Rattle.sota_block.proofs.wide.multiply_wide.Given as goal
 
 abbrev pub invariant-loop-k : goal.invariant-loop-k
 invariant-loop-k g l = record {

@@ -1,7 +1,7 @@
 use Rattle.std.proofs.Common.{suc, ◌-◌, length, arith}
 use Rattle.sota_block.specs.Product.{FOLDED_LIMIT}
 use Rattle.sota_block.proofs.Limits.{weighed-le, sum-le-limit}
-use Rattle.sota_block.proofs.plain.crossed.Goals as goal
+use Rattle.sota_block.proofs.wide.crossed.Goals as goal
 
 pub overflow_mul-sum : goal.overflow_mul-sum
 overflow_mul-sum g c =

@@ -1,6 +1,6 @@
 use Rattle.std.proofs.Common.{◌≡◌, ◌+◌, ◌-◌, ◌*◌, slice_index}
 use Rattle.sota_block.specs.Product.{sum_below}
-use Rattle.sota_block.proofs.plain.crossed.Given as goal
+use Rattle.sota_block.proofs.wide.crossed.Given as goal
 
 abbrev pub invariant-loop-b : goal.invariant-loop-b
 invariant-loop-b g l = record {

@@ -1,0 +1,38 @@
+-- The products that meet at a place of two blocks, and their halves: of a product of a mass and a
+-- value of 64 bits, lanes of 64 bits hold what the value's lower half gives and what its upper half
+-- gives.
+use Rattle.std.specs.Prelude.{ℕ, ◌+◌, ◌-◌, ◌*◌, ◌/◌, ◌%◌, ◌&&◌, nat_le, nat_lt, if◌then◌else◌}
+use Rattle.std.specs.Prelude.{List, length, slice_index}
+use Rattle.sota_block.specs.Product.{sum_below}
+
+-- a value is high_half * 2 ^ 32 + low_half
+abbrev pub low_half : ℕ → ℕ
+low_half value = value % 4294967296
+
+abbrev pub high_half : ℕ → ℕ
+high_half value = value / 4294967296
+
+-- The value that mass b meets at a place: the one with the number place - b, where that is `from`
+-- or more and below `to`; else 0
+abbrev pub met : (ℕ → ℕ) → ℕ → ℕ → ℕ → ℕ → ℕ
+met values from to place b =
+    if nat_le (from + b) place && nat_lt place (to + b) then values (place - b) else 0
+
+-- the products that meet at a place of a block of masses and the first `size` values
+abbrev pub meeting : List ℕ → (ℕ → ℕ) → ℕ → ℕ → ℕ
+meeting masses values size place =
+    sum_below (length masses) (λ b. slice_index masses b * met values 0 size place b)
+
+-- those of a block of masses and the lower halves of as many values, and the upper ones
+abbrev pub meeting_lows : List ℕ → List ℕ → ℕ → ℕ
+meeting_lows masses values place =
+    meeting masses (λ a. low_half (slice_index values a)) (length masses) place
+
+abbrev pub meeting_highs : List ℕ → List ℕ → ℕ → ℕ
+meeting_highs masses values place =
+    meeting masses (λ a. high_half (slice_index values a)) (length masses) place
+
+-- the sum of masses[b] times a part of values[place - b]
+abbrev pub crossed_by : (ℕ → ℕ) → List ℕ → List ℕ → ℕ → ℕ
+crossed_by part masses values place = sum_below (length masses)
+    (λ b. slice_index masses b * part (slice_index values (place - b)))
