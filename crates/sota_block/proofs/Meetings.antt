@@ -1,10 +1,9 @@
 -- The products that meet at a place of two blocks.
-use Rattle.std.proofs.Common.{◌≡◌, ℕ, zero, suc, ◌+◌, ◌-◌, ◌*◌, ◌%◌, ◌^◌, ◌<◌, ◌≤◌, List, length, get_or, set, length-set, get_or-set_same, get_or-set_other, sum, refl, sym, ap, ◌∙◌, ⊎_elim, arith, add-one}
+use Rattle.std.proofs.Common.{◌≡◌, ℕ, zero, suc, ◌+◌, ◌-◌, ◌*◌, ◌%◌, ◌^◌, ◌<◌, ◌≤◌, List, length, get_or, sum, refl, sym, ap, ◌∙◌, ⊎_elim, arith, add-one}
 use Rattle.std.proofs.lemmas.Bool.{cases_lt}
-use Rattle.std.proofs.Math.Nat.{mul-le-mul_left, mul_assoc, add-mul, pow-suc}
-use Rattle.std.proofs.lemmas.Nat.{pow_pos}
+use Rattle.std.proofs.Math.Nat.{mul-le-mul_left, mul_assoc, add-mul}
 use Rattle.std.proofs.lemmas.List.{get_or_past}
-use Rattle.sota_block.specs.Product.{sum_below, IsBlockLength, coefficient}
+use Rattle.sota_block.specs.Product.{sum_below, coefficient}
 use Rattle.sota_block.proofs.Sums.{sum_below-same, sum_below-zero, sum_below-add, sum_below-list}
 use Rattle.sota_block.proofs.Convolution.{coefficient-sum}
 use Rattle.sota_units.specs.Rounding.{ONE, SCALE_LIMIT}

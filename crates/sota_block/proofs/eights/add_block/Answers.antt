@@ -1,4 +1,4 @@
-use Rattle.std.proofs.Common.{◌≡◌, ◌+◌, length, refl, arith, length-take}
+use Rattle.std.proofs.Common.{◌+◌, length, refl, arith, length-take}
 use Rattle.sota_block.specs.Meeting.{low_half, high_half}
 use Rattle.sota_block.proofs.Meetings.{padded_is, zeros_after}
 use Rattle.sota_block.proofs.eights.add_block.Goals as goal

@@ -1,4 +1,4 @@
-use Rattle.std.proofs.Common.{◌≡◌, ℕ, ◌+◌, ◌<◌, ◌≤◌, List, length, slice_index, sum, ap, sym, subst, ◌∙◌, arith}
+use Rattle.std.proofs.Common.{◌≡◌, ℕ, ◌<◌, ◌≤◌, List, length, slice_index, sum, ap, sym, subst, ◌∙◌, arith}
 use Rattle.sota_units.specs.Rounding.{SCALE_LIMIT}
 use Rattle.sota_block.proofs.Meetings.{halves_coefficient, halves_fit}
 use Rattle.sota_block.proofs.narrow.multiply_narrow.Goals as goal

@@ -1,4 +1,4 @@
-use Rattle.std.proofs.Common.{ℕ, ◌≤◌, refl, arith}
+use Rattle.std.proofs.Common.{◌≤◌, refl, arith}
 use Rattle.std.proofs.lemmas.List.Elements.{All-replicate}
 use Rattle.sota_units.specs.Rounding.{ONE}
 use Rattle.sota_block.proofs.tests.middling.Goals as goal

@@ -1,0 +1,8 @@
+pub mod Counts
+pub mod FewMasses
+pub mod Landing
+pub mod Parts
+pub mod Places
+pub mod Split
+pub mod Squares
+pub mod Worked

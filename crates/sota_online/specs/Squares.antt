@@ -1,0 +1,70 @@
+-- Which products a summer that works by squares has done, apart from what it means.
+use Rattle.std.specs.Prelude.{ℕ, zero, suc, ◌+◌, ◌-◌, ◌*◌, ◌/◌, ◌^◌, ◌%◌, ◌==◌, ◌&&◌, ◌<◌, ◌≤◌}
+use Rattle.std.specs.Prelude.{◌≡◌, nat_le, if◌then◌else◌, List, length, slice_index, take, sum}
+use Rattle.sota_units.specs.Rounding.{ONE, SCALE_LIMIT}
+use Rattle.sota_block.specs.Meeting.{met}
+use Rattle.sota_block.specs.Product.{sum_below, fold_count}
+
+-- the products at a position of the masses b with size <= b < 2 * size, with the values from
+-- `from` up to `to`
+abbrev pub square : (ℕ → ℕ) → (ℕ → ℕ) → ℕ → ℕ → ℕ → ℕ → ℕ
+square masses values size from to position =
+    sum_below size (λ i. masses (size + i) * met values from to position (size + i))
+
+-- The same over the first levels: at level r the masses b with 2 ^ r <= b < 2 ^ (r + 1), and the
+-- first `reach r` values
+unfoldable pub levels : (ℕ → ℕ) → (ℕ → ℕ) → (ℕ → ℕ) → ℕ → ℕ → ℕ
+levels masses values reach count position =
+    sum_below count (λ r. square masses values (2 ^ r) 0 (reach r) position)
+
+-- n halved r times
+abbrev pub halved : ℕ → ℕ → ℕ
+halved n zero = n
+halved n (suc r) = halved n r / 2
+
+-- after n feeds, level r has met its whole blocks of 2 ^ r values
+abbrev pub whole_blocks : ℕ → ℕ → ℕ
+whole_blocks n r = halved n r * 2 ^ r
+
+-- enough levels for each kernel
+abbrev pub LEVELS : ℕ
+LEVELS = 17
+
+-- the masses by their numbers, counted from 1
+abbrev pub numbered : List ℕ → ℕ → ℕ
+numbered kernel b = slice_index kernel (b - 1)
+
+-- Two numbers that hold the products at a position: of the lower and of the upper halves of the
+-- values. Neither is large, since each mass meets at most one value there
+pub record Holds (masses values : ℕ → ℕ) (reach : ℕ → ℕ) (count position low high : ℕ) : Type 0 where
+  pub sum : low + 4294967296 * high ≡ levels masses values reach count position
+  pub low_le : low ≤ levels masses (λ a. 1) reach count position * 4294967295
+  pub high_le : high ≤ levels masses (λ a. 1) reach count position * 4294967295
+
+-- What a summer by squares keeps: the kernel and as many zeros, values of which the first `fed`
+-- were fed, and at each position two numbers that hold the products of all whole blocks
+pub record IsWorked (masses : List ℕ) (span : ℕ) (values : List ℕ) (fed : ℕ)
+    (low high thin wide : List ℕ) : Type 0 where
+  pub twice : length masses ≡ 2 * span
+  pub none_past : (b : ℕ) → span < b → numbered masses b ≡ 0
+  pub few : sum masses ≤ SCALE_LIMIT
+  pub fed_le : fed ≤ length values
+  pub few_values : length values ≤ 65536
+  pub few_masses : span ≤ length values
+  pub low_room : length low ≡ length values + 2 * span + 1
+  pub high_room : length high ≡ length low
+  pub thin_room : 2 * span + 16 ≤ length thin
+  pub wide_room : 6 * span ≤ length wide
+  pub small : (a : ℕ) → slice_index values a ≤ ONE
+  pub held : (p : ℕ) → p < length low
+      → Holds (numbered masses) (λ a. slice_index (take fed values) a) (λ r. whole_blocks fed r)
+      LEVELS p (slice_index low p) (slice_index high p)
+
+-- how many products a square of the blocks that the k-th value ends may take, at level r, of a
+-- kernel with so many places
+abbrev pub square_count : ℕ → ℕ → ℕ → ℕ
+square_count span k r = if (k % 2 ^ r == 0) && nat_le (2 ^ r) span then fold_count r else 0
+
+-- and all of them together; no level is as great as the kernel is long
+abbrev pub square_counts : ℕ → ℕ → ℕ
+square_counts span k = sum_below span (λ r. square_count span k r)

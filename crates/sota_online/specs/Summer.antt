@@ -1,0 +1,36 @@
+-- What a summer means, and what it answers.
+use Rattle.std.specs.Prelude.{ℕ, ◌+◌, ◌-◌, ◌*◌, min, List, [], ◌∷◌, ◌++◌, map, slice_index}
+use Rattle.std.specs.List.{range_with_len}
+use Rattle.sota_hist.specs.Time.{least_tick, greatest_tick, mass_at}
+use Rattle.sota_block.specs.Product.{sum_below}
+
+-- the masses by ticks from the least on, the values fed so far, and how many more can be fed
+pub record SummerState : Type 0 where
+  pub kernel : List ℕ
+  pub values : List ℕ
+  pub room : ℕ
+
+-- how many ticks there are from the least to the greatest
+abbrev pub span : List (ℕ × ℕ) → ℕ
+span time = greatest_tick time - least_tick time + 1
+
+-- The masses at the ticks from the least on, absent ones being 0, up to the greatest tick but no
+-- more than `length`. Further ones meet no value, since no more than `length` values are fed
+abbrev pub kernel_of : ℕ → List (ℕ × ℕ) → List ℕ
+kernel_of length time =
+    map (λ b. mass_at (least_tick time + b) time) (range_with_len 0 (min (span time) length))
+
+-- The sum at a position p of at least 1: of the kernel's b-th mass times the value p - b, over b
+-- from 1 to p. Masses are counted from 1 and values from 0, so that mass b stands at place b - 1 of
+-- the kernel. Past its end a mass is 0
+abbrev pub plain : List ℕ → List ℕ → ℕ → ℕ
+plain kernel values position =
+    sum_below position (λ b. slice_index kernel b * slice_index values (position - 1 - b))
+
+-- one value more
+abbrev pub fed_more : ℕ → SummerState → SummerState
+fed_more value state = record {
+  kernel = state.kernel;
+  values = state.values ++ value ∷ [];
+  room = state.room - 1;
+}

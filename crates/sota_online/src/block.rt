@@ -1,0 +1,115 @@
+// Sums by squares.
+ghost use Rattle.std.specs.Prelude.{◌≡◌, ◌≤◌, ◌+◌, [], length, false, IfOk};
+ghost use Rattle.sota_hist.specs.Time.{is_closed};
+ghost use Rattle.sota_online.specs.Summer.{kernel_of, plain, fed_more};
+ghost use Rattle.sota_online.specs.Squares.{square_counts};
+
+use crate::Summer;
+use crate::halves::joined;
+use crate::kernel::kernel_masses;
+use crate::levels::work_off;
+use sota_hist::Histogram;
+use sota_units::{Grain, Heft, NoMemory, Steps};
+use std::alloc::Global;
+use std::marker::Model;
+use std::sync::ledger::Ledger;
+
+/// A summer that works by squares. Masses and values are numbered, masses from 1 and values from 0,
+/// and a square is made of the masses from a power of two up to the next and of as many values, a
+/// whole block of them. It is worked off when its block is complete, and it lands at positions
+/// after the block. So each sum is there when it is asked for.
+#[derive(Drop)]
+pub struct BlockSummer {
+    // The kernel's masses, and as many zeros.
+    masses: Vec<u32>,
+    span: usize,
+    values: Vec<u64>,
+    fed: usize,
+    // The sums by positions, of the lower and of the upper halves of values.
+    low: Vec<u64>,
+    high: Vec<u64>,
+    // What a square is worked off with: a block of values between zeros, or what a folded product
+    // wants.
+    thin: Vec<u64>,
+    wide: Vec<u128>,
+}
+
+impl Model for BlockSummer {
+    ghost use Rattle.std.specs.Prelude.{◌-◌, length, take};
+    ghost use Rattle.sota_online.specs.Summer.{SummerState};
+    ghost use Rattle.sota_online.specs.Squares.{IsWorked};
+
+    ghost Value = { SummerState };
+
+    ghost view = { λ s. record {
+      kernel = take s.span s.masses.items;
+      values = take s.fed s.values.items;
+      room = length s.values.items - s.fed;
+    } };
+
+    ghost invariant = { λ s. IsWorked s.masses.items s.span s.values.items s.fed
+        s.low.items s.high.items s.thin.items s.wide.items };
+}
+
+impl Summer for BlockSummer {
+    ghost state = { λ s. s };
+
+    fn make(alloc: Global, time: &Histogram, length: u32) -> Result<Self, NoMemory> {
+        let mut masses = kernel_masses(alloc, time, length)?;
+        let span = masses.len();
+        let zeros = vec![in alloc; 0; span]?;
+        masses.extend_from_slice(&zeros)?;
+        let values = vec![in alloc; 0; length as usize]?;
+        let places = length as usize + 2 * span + 1;
+        let low = vec![in alloc; 0; places]?;
+        let high = vec![in alloc; 0; places]?;
+        let thin = vec![in alloc; 0; 2 * span + 16]?;
+        let wide = vec![in alloc; 0; 6 * span]?;
+        Ok(BlockSummer {
+            masses,
+            span,
+            values,
+            fed: 0,
+            low,
+            high,
+            thin,
+            wide,
+        })
+    }
+
+    fn fed(&self) -> u32 {
+        self.fed as u32
+    }
+
+    fn room(&self) -> u32 {
+        (self.values.len() - self.fed) as u32
+    }
+
+    fn feed<M: Ledger>(&mut self, value: Grain, products: &mut Steps<M>)
+        requires { 1 ≤ self.old.room }
+        ensures state { self.new ≡ fed_more value self.old }
+
+        // Of each whole block that it ends, as many products as a folded product takes, and no
+        // more.
+        ensures count { products.new
+            ≤ products.old + square_counts (length self.old.kernel) (length self.new.values) }
+    {
+        self.values[self.fed] = value.get();
+        self.fed += 1;
+        work_off(
+            &self.masses,
+            self.span,
+            &self.values[..self.fed],
+            &mut self.low,
+            &mut self.high,
+            &mut self.thin,
+            &mut self.wide,
+            products,
+        );
+    }
+
+    fn sum(&self, position: u32) -> Heft {
+        let place = position as usize;
+        joined(self.low[place], self.high[place])
+    }
+}

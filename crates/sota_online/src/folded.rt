@@ -1,0 +1,84 @@
+// A square by a folded product.
+ghost use Rattle.std.specs.Prelude.{◌≡◌, ℕ, ◌+◌, ◌*◌, ◌^◌, ◌<◌, ◌≤◌, length, slice_index, sum};
+ghost use Rattle.sota_units.specs.Rounding.{ONE, SCALE_LIMIT};
+ghost use Rattle.sota_block.specs.Meeting.{low_half, high_half};
+ghost use Rattle.sota_block.specs.Product.{IsBlockLength, fold_count};
+ghost use Rattle.sota_online.specs.Products.{HasRoom, SumsGrow, GrowsByMost};
+
+use sota_block::product_fold;
+use sota_units::Steps;
+use std::sync::ledger::Ledger;
+
+/// Adds the products of a block of masses and a block of values to the sums of two blocks of
+/// places, each sum in two halves, by one folded product.
+pub(crate) fn add_folded<M: Ledger>(
+    masses: &[u32],
+    values: &[u64],
+    low: &mut [u64],
+    high: &mut [u64],
+    thin: &mut [u64],
+    wide: &mut [u128],
+    products: &mut Steps<M>,
+)
+    requires block { IsBlockLength (length masses.now) }
+    requires same_length { length values.now ≡ length masses.now }
+    requires few { sum masses.now ≤ SCALE_LIMIT }
+    requires small { (a : ℕ) → slice_index values.now a ≤ ONE }
+    requires low_room { length low.old ≡ 2 * length masses.now }
+    requires high_room { length high.old ≡ 2 * length masses.now }
+    requires thin_room { 2 * length masses.now ≤ length thin.old }
+    requires wide_room { 6 * length masses.now ≤ length wide.old }
+    requires low_fits { HasRoom masses.now low.old }
+    requires high_fits { HasRoom masses.now high.old }
+    ensures sums { SumsGrow masses.now values.now low.old high.old low.new high.new }
+    ensures low_small { GrowsByMost masses.now low.old low.new }
+    ensures high_small { GrowsByMost masses.now high.old high.new }
+    ensures count { (r : ℕ) → length masses.now ≡ 2 ^ r
+        → products.new ≡ products.old + fold_count r }
+{
+    let length = masses.len();
+    let (kernel, folded) = thin.split_at_mut(length);
+    let (broad, rest) = wide.split_at_mut(length);
+    let (into, scratch) = rest.split_at_mut(2 * length);
+    widen_masses(masses, kernel);
+    widen_values(values, broad);
+    product_fold(kernel, broad, into, scratch, folded, products);
+    add_wide(into, low, high);
+}
+
+fn widen_masses(masses: &[u32], into: &mut [u64])
+    requires { length into.old ≡ length masses.now }
+    ensures { into.new ≡ masses.now }
+{
+    for i in 0..masses.len() {
+        into[i] = u64::from(masses[i]);
+    }
+}
+
+fn widen_values(values: &[u64], into: &mut [u128])
+    requires { length into.old ≡ length values.now }
+    ensures { into.new ≡ values.now }
+{
+    for i in 0..values.len() {
+        into[i] = u128::from(values[i]);
+    }
+}
+
+// Adds sums to sums in two halves.
+fn add_wide(sums: &[u128], low: &mut [u64], high: &mut [u64])
+    requires low_room { length low.old ≡ length sums.now }
+    requires high_room { length high.old ≡ length sums.now }
+    requires low_fits { (k : ℕ) → k < length sums.now
+        → slice_index low.old k + low_half (slice_index sums.now k) < 2 ^ 64 }
+    requires high_fits { (k : ℕ) → k < length sums.now
+        → slice_index high.old k + high_half (slice_index sums.now k) < 2 ^ 64 }
+    ensures low { (k : ℕ) → k < length sums.now → slice_index low.new k
+        ≡ slice_index low.old k + low_half (slice_index sums.now k) }
+    ensures high { (k : ℕ) → k < length sums.now → slice_index high.new k
+        ≡ slice_index high.old k + high_half (slice_index sums.now k) }
+{
+    for k in 0..sums.len() {
+        low[k] += (sums[k] % 4_294_967_296) as u64;
+        high[k] += (sums[k] / 4_294_967_296) as u64;
+    }
+}

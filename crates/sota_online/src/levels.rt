@@ -1,0 +1,121 @@
+// The squares that a value makes whole.
+ghost use Rattle.std.specs.Prelude.{◌≡◌, ℕ, ◌+◌, ◌-◌, ◌*◌, ◌^◌, ◌<◌, ◌≤◌, length, slice_index, sum};
+ghost use Rattle.sota_units.specs.Rounding.{ONE, SCALE_LIMIT};
+ghost use Rattle.sota_block.specs.Meeting.{meeting};
+ghost use Rattle.sota_block.specs.Product.{IsBlockLength, fold_count};
+ghost use Rattle.sota_online.specs.Products.{most};
+ghost use Rattle.sota_online.specs.Squares.{Holds, LEVELS, numbered, whole_blocks, square_counts};
+
+use crate::square::add_square;
+use sota_units::Steps;
+use std::sync::ledger::Ledger;
+
+/// Works off each square that the last value makes whole: at each size, a power of two, of which
+/// the number of values is a multiple.
+pub(crate) fn work_off<M: Ledger>(
+    masses: &[u32],
+    span: usize,
+    values: &[u64],
+    low: &mut [u64],
+    high: &mut [u64],
+    thin: &mut [u64],
+    wide: &mut [u128],
+    products: &mut Steps<M>,
+)
+    requires some { 1 ≤ length values.now }
+    requires few_values { length values.now ≤ 65536 }
+    requires twice { length masses.now ≡ 2 * span }
+    requires none_past { (b : ℕ) → span < b → numbered masses.now b ≡ 0 }
+    requires few { sum masses.now ≤ SCALE_LIMIT }
+    requires low_room { length values.now + 2 * span ≤ length low.old }
+    requires high_room { length high.old ≡ length low.old }
+    requires small { (a : ℕ) → slice_index values.now a ≤ ONE }
+    requires thin_room { 2 * span + 16 ≤ length thin.old }
+    requires wide_room { 6 * span ≤ length wide.old }
+    requires held { (p : ℕ) → p < length low.old
+        → Holds (numbered masses.now) (λ a. slice_index values.now a)
+        (λ r. whole_blocks (length values.now - 1) r) LEVELS p
+        (slice_index low.old p) (slice_index high.old p) }
+    ensures held { (p : ℕ) → p < length low.new
+        → Holds (numbered masses.now) (λ a. slice_index values.now a)
+        (λ r. whole_blocks (length values.now) r) LEVELS p
+        (slice_index low.new p) (slice_index high.new p) }
+    ensures count { products.new ≤ products.old + square_counts span (length values.now) }
+{
+    let known = values.len();
+    let mut size = 1;
+    let mut blocks = known;
+    for _level in 0..17u32 {
+        if size > span {
+            return;
+        }
+        add_at(
+            &masses[size - 1..2 * size - 1],
+            &values[known - size..],
+            known,
+            low,
+            high,
+            thin,
+            wide,
+            products,
+        );
+        if blocks % 2 != 0 {
+            return;
+        }
+        blocks /= 2;
+        size *= 2;
+    }
+}
+
+// The products of a block of masses and a block of values, from a place on.
+#[inline(always)]
+fn add_at<M: Ledger>(
+    masses: &[u32],
+    values: &[u64],
+    at: usize,
+    low: &mut [u64],
+    high: &mut [u64],
+    thin: &mut [u64],
+    wide: &mut [u128],
+    products: &mut Steps<M>,
+)
+    requires block { IsBlockLength (length masses.now) }
+    requires same_length { length values.now ≡ length masses.now }
+    requires low_room { at + 2 * length masses.now ≤ length low.old }
+    requires high_room { at + 2 * length masses.now ≤ length high.old }
+    requires few { sum masses.now ≤ SCALE_LIMIT }
+    requires small { (a : ℕ) → slice_index values.now a ≤ ONE }
+    requires thin_room { 2 * length masses.now + 16 ≤ length thin.old }
+    requires wide_room { 6 * length masses.now ≤ length wide.old }
+    requires low_fits { (k : ℕ) → k < 2 * length masses.now
+        → slice_index low.old (at + k) + most masses.now k < 2 ^ 64 }
+    requires high_fits { (k : ℕ) → k < 2 * length masses.now
+        → slice_index high.old (at + k) + most masses.now k < 2 ^ 64 }
+    ensures sums { (k : ℕ) → k < 2 * length masses.now
+        → slice_index low.new (at + k) + 4294967296 * slice_index high.new (at + k)
+        ≡ slice_index low.old (at + k) + 4294967296 * slice_index high.old (at + k)
+        + meeting masses.now (λ a. slice_index values.now a) (length masses.now) k }
+    ensures low_small { (k : ℕ) → k < 2 * length masses.now
+        → slice_index low.new (at + k) ≤ slice_index low.old (at + k) + most masses.now k }
+    ensures high_small { (k : ℕ) → k < 2 * length masses.now
+        → slice_index high.new (at + k) ≤ slice_index high.old (at + k) + most masses.now k }
+    ensures low_before { (k : ℕ) → k < at → slice_index low.new k ≡ slice_index low.old k }
+    ensures high_before { (k : ℕ) → k < at → slice_index high.new k ≡ slice_index high.old k }
+    ensures low_after { (k : ℕ) → at + 2 * length masses.now ≤ k
+        → slice_index low.new k ≡ slice_index low.old k }
+    ensures high_after { (k : ℕ) → at + 2 * length masses.now ≤ k
+        → slice_index high.new k ≡ slice_index high.old k }
+    ensures count { (r : ℕ) → length masses.now ≡ 2 ^ r
+        → products.new ≤ products.old + fold_count r }
+{
+    let end = at + 2 * masses.len();
+    add_square(
+        masses,
+        values,
+        &mut low[at..end],
+        &mut high[at..end],
+        thin,
+        wide,
+        products,
+    );
+}

@@ -1,0 +1,19 @@
+//! Online sums: the sums of a kernel of masses and a list of values that grows.
+#![tactic(auto)]
+
+mod block;
+mod folded;
+mod halves;
+mod kernel;
+pub mod laws;
+mod levels;
+mod plain;
+mod rows;
+mod square;
+mod summer;
+#[cfg(test)]
+mod tests;
+
+pub use block::BlockSummer;
+pub use plain::PlainSummer;
+pub use summer::Summer;

@@ -1,0 +1,76 @@
+// Each sum when it is asked for.
+ghost use Rattle.std.specs.Prelude.{◌≡◌, ◌≤◌, [], length, false, IfOk};
+ghost use Rattle.sota_hist.specs.Time.{is_closed};
+ghost use Rattle.sota_online.specs.Summer.{kernel_of, plain, fed_more};
+
+use crate::Summer;
+use crate::halves::crossed;
+use crate::kernel::kernel_masses;
+use sota_hist::Histogram;
+use sota_units::{Grain, Heft, NoMemory, Steps};
+use std::alloc::Global;
+use std::marker::Model;
+use std::sync::ledger::Ledger;
+
+/// A summer that computes each sum when it is asked for. Its values take no work, and a sum takes
+/// one product for each place of the kernel, which no counter counts.
+#[derive(Drop)]
+pub struct PlainSummer {
+    kernel: Vec<u32>,
+    values: Vec<u64>,
+    fed: usize,
+}
+
+impl Model for PlainSummer {
+    ghost use Rattle.std.specs.Prelude.{◌-◌, ◌≤◌, length, take, sum};
+    ghost use Rattle.sota_units.specs.Rounding.{SCALE_LIMIT};
+    ghost use Rattle.sota_online.specs.Summer.{SummerState};
+
+    ghost Value = { SummerState };
+
+    ghost view = { λ s. record {
+      kernel = s.kernel.items;
+      values = take s.fed s.values.items;
+      room = length s.values.items - s.fed;
+    } };
+
+    ghost invariant = { λ s. (s.fed ≤ length s.values.items) × (length s.values.items ≤ 65536)
+        × (sum s.kernel.items ≤ SCALE_LIMIT) };
+}
+
+impl Summer for PlainSummer {
+    ghost state = { λ s. s };
+
+    fn make(alloc: Global, time: &Histogram, length: u32) -> Result<Self, NoMemory> {
+        let kernel = kernel_masses(alloc, time, length)?;
+        let values = vec![in alloc; 0; length as usize]?;
+        Ok(PlainSummer {
+            kernel,
+            values,
+            fed: 0,
+        })
+    }
+
+    fn fed(&self) -> u32 {
+        self.fed as u32
+    }
+
+    fn room(&self) -> u32 {
+        (self.values.len() - self.fed) as u32
+    }
+
+    fn feed<M: Ledger>(&mut self, value: Grain, products: &mut Steps<M>)
+        requires { 1 ≤ self.old.room }
+        ensures state { self.new ≡ fed_more value self.old }
+        ensures count { products.new ≡ products.old }
+    {
+        self.values[self.fed] = value.get();
+        self.fed += 1;
+    }
+
+    fn sum(&self, position: u32) -> Heft {
+        let place = position as usize;
+        let few = place.min(self.kernel.len());
+        crossed(&self.kernel[..few], &self.values[place - few..place])
+    }
+}

@@ -1,0 +1,48 @@
+// Sums over a list of values that grows.
+ghost use Rattle.std.specs.Prelude.{◌≡◌, ◌≤◌, [], length, false, IfOk};
+ghost use Rattle.sota_hist.specs.Time.{is_closed};
+ghost use Rattle.sota_online.specs.Summer.{SummerState, kernel_of, plain, fed_more};
+
+use sota_hist::Histogram;
+use sota_units::{Grain, Heft, NoMemory, Steps};
+use std::alloc::Global;
+use std::sync::ledger::Ledger;
+
+/// The sums of a kernel and a list of values, in units of `Q` times ten to the eighteenth. Values
+/// are fed one after the other, and the sum at a position is known once all values below that
+/// position are.
+pub trait Summer: Sized + Drop {
+    /// Its kernel, the values fed so far, and how many more can be fed.
+    ghost state: { Self → SummerState };
+
+    /// A summer of an open histogram's masses, moved by its least tick, with no value yet and room
+    /// for `length` of them. All memory is taken here.
+    fn make(alloc: Global, time: &Histogram, length: u32) -> Result<Self, NoMemory>
+        requires open { is_closed time.now ≡ false }
+        requires length { length ≤ 65536 }
+        ensures { IfOk result (λ summer. state summer ≡ record {
+          kernel = kernel_of length time.now;
+          values = [];
+          room = length;
+        }) };
+
+    /// How many values were fed.
+    fn fed(&self) -> u32
+        ensures { result ≡ length (state self.now).values };
+
+    /// How many more can be fed.
+    fn room(&self) -> u32
+        ensures { result ≡ (state self.now).room };
+
+    /// One value more. It takes no memory. What it multiplies is counted in `products`.
+    fn feed<M: Ledger>(&mut self, value: Grain, products: &mut Steps<M>)
+        requires { 1 ≤ (state self.old).room }
+        ensures { state self.new ≡ fed_more value (state self.old) };
+
+    /// The sum at a position: of each mass times the value as many places below the position as the
+    /// mass has in the kernel, counted from 1. It takes no memory.
+    fn sum(&self, position: u32) -> Heft
+        requires positive { 1 ≤ position }
+        requires known { position ≤ length (state self.now).values }
+        ensures { result ≡ plain (state self.now).kernel (state self.now).values position };
+}
