@@ -1,7 +1,7 @@
 -- Rows of which one is another.
-use Rattle.std.proofs.Common.{ℕ, zero, suc, ◌≡◌, ◌+◌, ◌-◌, ◌<◌, ◌≤◌, min, List, [], ◌∷◌, ◌++◌, length, get_or, set, replicate, Option, None, refl, sym, ◌∙◌, ap, arith, ⊎_elim, subst}
+use Rattle.std.proofs.Common.{ℕ, zero, suc, ◌≡◌, ◌+◌, ◌-◌, ◌<◌, ◌≤◌, min, List, [], ◌∷◌, ◌++◌, length, get_or, set, take, replicate, Option, None, refl, sym, ◌∙◌, ap, arith, ⊎_elim, subst}
 use Rattle.std.proofs.lemmas.Bool.{cases_eq}
-use Rattle.std.proofs.lemmas.List.{get_or-set_same, get_or-set_other, length-set, length-append, get_or-replicate}
+use Rattle.std.proofs.lemmas.List.{get_or-set_same, get_or-set_other, length-set, length-append, get_or-replicate, append_assoc, take_more}
 use Rattle.std.proofs.Math.ListN.{length-replicate}
 use Rattle.sota_units.specs.Limits.{NODE_LIMIT}
 use Rattle.sota_network.specs.Numbers.{listed}
@@ -108,7 +108,44 @@ set-self [] k = refl
 set-self (x ∷ xs) zero = refl
 set-self (x ∷ xs) (suc k) = ap (λ (ys : List ℕ). x ∷ ys) (set-self xs k)
 
--- an entry more
+-- entries more
+pub view-longer : (v : TablesView) → IsTablesView v → (n end : ℕ) (ls us : List ℕ) (cs : List (Option ℕ)) → 1 ≤ n → n ≤ length v.fronts → end ≡ known_end (table_at v n) → 1 ≤ length ls → length us ≡ length ls → length cs ≡ length ls
+    → end + length ls ≤ END_LIMIT
+    → IsTablesView (record {
+      dest = v.dest;
+      fronts = set v.fronts (n - 1) (end + length ls);
+      bases = v.bases;
+      lower = with_list v.lower (n - 1) (list_at v.lower (n - 1) ++ ls);
+      upper = with_list v.upper (n - 1) (list_at v.upper (n - 1) ++ us);
+      choices = with_list v.choices (n - 1) (list_at v.choices (n - 1) ++ cs);
+    })
+view-longer v is n end ls us cs from to at some upper-long choices-long room =
+    let s = is.tables n from to in
+    let b : ℕ = get_or v.bases (n - 1) 0 in
+    let base : b ≤ END_LIMIT = s.base in
+    let one : length (list_at v.lower (n - 1)) ≡ (table_at v n).front - b = s.lower in
+    let two : length (list_at v.upper (n - 1)) ≡ (table_at v n).front - b = s.upper in
+    let three : length (list_at v.choices (n - 1)) ≡ (table_at v n).front - b = s.choices in
+    let made = view-changed v is n (end + length ls) b (list_at v.lower (n - 1) ++ ls) (list_at v.upper (n - 1) ++ us) (list_at v.choices (n - 1) ++ cs) from to
+    (record {
+      front = room;
+      base = base;
+      lower = length-append (list_at v.lower (n - 1)) ls ∙ omega (arith, one, at);
+      upper = length-append (list_at v.upper (n - 1)) us ∙ omega (arith, two, at, upper-long);
+      choices = length-append (list_at v.choices (n - 1)) cs ∙ omega (arith, three, at, choices-long);
+    }) in
+    subst
+    (λ (bs : List ℕ). IsTablesView (record {
+      dest = v.dest;
+      fronts = set v.fronts (n - 1) (end + length ls);
+      bases = bs;
+      lower = with_list v.lower (n - 1) (list_at v.lower (n - 1) ++ ls);
+      upper = with_list v.upper (n - 1) (list_at v.upper (n - 1) ++ us);
+      choices = with_list v.choices (n - 1) (list_at v.choices (n - 1) ++ cs);
+    }))
+    (set-self v.bases (n - 1)) made
+
+-- one
 pub view-pushed : (v : TablesView) → IsTablesView v → (n end : ℕ) (l u : ℕ) (c : Option ℕ) → 1 ≤ n → n ≤ length v.fronts → end ≡ known_end (table_at v n) → end < END_LIMIT
     → IsTablesView (record {
       dest = v.dest;
@@ -119,30 +156,7 @@ pub view-pushed : (v : TablesView) → IsTablesView v → (n end : ℕ) (l u : �
       choices = with_list v.choices (n - 1) (list_at v.choices (n - 1) ++ c ∷ []);
     })
 view-pushed v is n end l u c from to at room =
-    let s = is.tables n from to in
-    let b : ℕ = get_or v.bases (n - 1) 0 in
-    let base : b ≤ END_LIMIT = s.base in
-    let one : length (list_at v.lower (n - 1)) ≡ (table_at v n).front - b = s.lower in
-    let two : length (list_at v.upper (n - 1)) ≡ (table_at v n).front - b = s.upper in
-    let three : length (list_at v.choices (n - 1)) ≡ (table_at v n).front - b = s.choices in
-    let made = view-changed v is n (end + 1) b (list_at v.lower (n - 1) ++ l ∷ []) (list_at v.upper (n - 1) ++ u ∷ []) (list_at v.choices (n - 1) ++ c ∷ []) from to
-    (record {
-      front = omega arith;
-      base = base;
-      lower = length-append (list_at v.lower (n - 1)) (l ∷ []) ∙ omega (arith, one, at);
-      upper = length-append (list_at v.upper (n - 1)) (u ∷ []) ∙ omega (arith, two, at);
-      choices = length-append (list_at v.choices (n - 1)) (c ∷ []) ∙ omega (arith, three, at);
-    }) in
-    subst
-    (λ (bs : List ℕ). IsTablesView (record {
-      dest = v.dest;
-      fronts = set v.fronts (n - 1) (end + 1);
-      bases = bs;
-      lower = with_list v.lower (n - 1) (list_at v.lower (n - 1) ++ l ∷ []);
-      upper = with_list v.upper (n - 1) (list_at v.upper (n - 1) ++ u ∷ []);
-      choices = with_list v.choices (n - 1) (list_at v.choices (n - 1) ++ c ∷ []);
-    }))
-    (set-self v.bases (n - 1)) made
+    view-longer v is n end (l ∷ []) (u ∷ []) (c ∷ []) from to at (let z : 1 ≤ 1 = omega arith in z) refl refl (let z : end + 1 ≤ END_LIMIT = omega arith in z)
 
 -- ---- a loop over the nodes
 -- what was done to the first k nodes, and not yet to the others
@@ -255,3 +269,19 @@ module _ (laws : ListLaws) (v : TablesView) (is : IsTablesView v) (needs caps : 
       let l2 : length (list_at upper k) ≡ length (list_at v.upper k) = ap (λ (xs : List ℕ). length xs) (same-lists v.upper upper same-upper k) in
       let l3 : length (list_at choices k) ≡ length (list_at v.choices k) = ap (λ (xs : List (Option ℕ)). length xs) (same-lists v.choices choices same-choices k) in
       omega (arith, cap, c1, c2, c3, l1, l2, l3, s.lower, s.upper, s.choices)
+
+-- ---- entries that are appended one after another
+with-with : {X : Type 0} (rows : List (Row X)) (k : ℕ) (xs ys : List X) → k < length rows → with_list (with_list rows k xs) k ys ≡ with_list rows k ys
+with-with [] k xs ys less = absurd (omega arith)
+with-with (r ∷ rows) zero xs ys less = refl
+with-with (r ∷ rows) (suc k) xs ys less = ap (λ rest. r ∷ rest) (with-with rows k xs ys (omega arith))
+
+-- one more
+pub appended-more : {X : Type 0} (rows : List (Row X)) (row : ℕ) (values : List X) (k : ℕ) (x : X) → row < length rows → k < length values → x ≡ get_or values k x
+    → (let now : List (Row X) = with_list rows row (list_at rows row ++ take k values) in with_list now row (list_at now row ++ x ∷ [])) ≡ with_list rows row (list_at rows row ++ take (k + 1) values)
+appended-more rows row values k x less within at =
+    let had : list_at (with_list rows row (list_at rows row ++ take k values)) row ≡ list_at rows row ++ take k values = list-own rows row (list_at rows row ++ take k values) less in
+    let front : take (k + 1) values ≡ take k values ++ x ∷ [] = take_more values k x within ∙ ap (λ y. take k values ++ y ∷ []) (sym at) in
+    rw (had, front)
+    (with-with rows row (list_at rows row ++ take k values) ((list_at rows row ++ take k values) ++ x ∷ []) less
+    ∙ ap (λ xs. with_list rows row xs) (append_assoc (list_at rows row) (take k values) (x ∷ [])))

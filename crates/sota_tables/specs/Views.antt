@@ -1,10 +1,12 @@
 -- What a contract sees of tables: lists with one item a node, that of node i at the index i - 1.
-use Rattle.std.specs.Prelude.{ℕ, ◌≡◌, ◌≢◌, ◌-◌, ◌<◌, ◌≤◌, ◌==◌, min, max, Bool, false, List}
+use Rattle.std.specs.Prelude.{ℕ, ◌≡◌, ◌≢◌, ◌-◌, ◌<◌, ◌≤◌, ◌+◌, ◌==◌, ◌++◌, min, max, Bool}
+use Rattle.std.specs.Prelude.{false, List}
 use Rattle.std.specs.Prelude.{length, slice_index, Option, None, Some, if◌then◌else◌}
 use Rattle.sota_units.specs.Limits.{NODE_LIMIT}
 use Rattle.sota_units.specs.Rounding.{ONE}
 use Rattle.sota_bank.specs.Rows.{Row, list_at, cap_at, lists}
-use Rattle.sota_kept.specs.NodeTables.{NodeTable, IsNodeTable, lower_of, upper_of, choice_at}
+use Rattle.sota_kept.specs.NodeTables.{NodeTable, IsNodeTable, known_end, lower_of, upper_of}
+use Rattle.sota_kept.specs.NodeTables.{choice_at}
 use Rattle.sota_kept.specs.TableLists.{TableLists}
 
 -- the destination or none, and for each node a front, a base and three rows
@@ -82,6 +84,16 @@ row_needed v needs i =
 -- each row of the bank may have this many entries
 abbrev pub HasRoom : {X : Type 0} → List (Row X) → List ℕ → Type 0
 HasRoom rows caps = (row : ℕ) → row < length caps → slice_index caps row ≤ cap_at rows row
+
+-- as many entries more, at the known end
+abbrev pub longer_table : List ℕ → List ℕ → List (Option ℕ) → NodeTable → NodeTable
+longer_table lower upper choices s = record {
+  front = known_end s + length lower;
+  base = s.base;
+  lower = s.lower ++ lower;
+  upper = s.upper ++ upper;
+  choices = s.choices ++ choices;
+}
 
 -- ---- what stays
 -- the destination and the numbers of items

@@ -1,18 +1,18 @@
 // Tables of bounds and choices.
-ghost use Rattle.std.specs.Prelude.{ℕ, ◌≡◌, ◌≢◌, ◌+◌, ◌-◌, ◌<◌, ◌≤◌, true, false, length};
-ghost use Rattle.std.specs.Prelude.{slice_index, nat_lt, if◌then◌else◌, IfOk, IsSome, OnOk};
+ghost use Rattle.std.specs.Prelude.{ℕ, ◌≡◌, ◌≢◌, ◌+◌, ◌-◌, ◌*◌, ◌<◌, ◌≤◌, ◌++◌, true, false};
+ghost use Rattle.std.specs.Prelude.{length, slice_index, nat_lt, if◌then◌else◌, IfOk, IsSome, OnOk};
 ghost use Rattle.std.specs.Prelude.{None, Some};
 ghost use Rattle.std.specs.List.{All, sum};
 ghost use Rattle.sota_units.specs.Limits.{NODE_LIMIT};
 ghost use Rattle.sota_network.specs.Numbers.{listed};
-ghost use Rattle.sota_bank.specs.Rows.{list_at, lists};
+ghost use Rattle.sota_bank.specs.Rows.{list_at, cap_at, with_list, lists};
 ghost use Rattle.sota_kept.specs.Ticks.{END_LIMIT};
 ghost use Rattle.sota_kept.specs.States.{KEPT_LIMIT};
 ghost use Rattle.sota_kept.specs.NodeTables.{known_end, cut_to, pushed_table};
 ghost use Rattle.sota_kept.specs.NodeTables.{emptied_table, rebased_table};
 ghost use Rattle.sota_tables.specs.Views.{TablesView, IsTablesView, HasNode, OnlyAt, SameNodes};
 ghost use Rattle.sota_tables.specs.Views.{lists_of, table_at, is_at_dest, lower_at, upper_at};
-ghost use Rattle.sota_tables.specs.Views.{choice_in, room_of, row_needed, HasRoom};
+ghost use Rattle.sota_tables.specs.Views.{choice_in, room_of, row_needed, HasRoom, longer_table};
 
 use sota_bank::RowBank;
 use sota_network::laws::lists_by_number;
@@ -290,6 +290,37 @@ impl Tables {
         self.fronts[index] = end + 1;
     }
 
+    /// Adds the entries of an extent at once, from the known end of a node on. It counts what as
+    /// many calls of `push_entry` would.
+    pub fn push_extent<P: Ledger>(
+        &mut self,
+        node: NodeId,
+        lower: &[Grain],
+        upper: &[Grain],
+        choices: &[Option<ArcId>],
+        pushes: &mut Steps<P>,
+    )
+        requires node { HasNode self.old node }
+        requires some { 1 ≤ length lower.now }
+        requires lengths { (length upper.now ≡ length lower.now)
+            × (length choices.now ≡ length lower.now) }
+        requires room { length lower.now ≤ room_of self.old node }
+        requires end { known_end (table_at self.old node) + length lower.now ≤ END_LIMIT }
+        ensures entries { table_at self.new node
+            ≡ longer_table lower.now upper.now choices.now (table_at self.old node) }
+        ensures others { OnlyAt node self.old self.new }
+        ensures room { room_of self.new node + length lower.now ≡ room_of self.old node }
+        ensures rooms { (j : ℕ) → 1 ≤ j → j ≢ node → room_of self.new j ≡ room_of self.old j }
+        ensures count { pushes.new ≡ pushes.old + 3 * length lower.now }
+    {
+        let index = node.get() as usize - 1;
+        let end = self.bases[index].max(self.fronts[index]);
+        append(&mut self.lower, index, lower, pushes);
+        append(&mut self.upper, index, upper, pushes);
+        append(&mut self.choices, index, choices, pushes);
+        self.fronts[index] = end + lower.len() as u32;
+    }
+
     /// Keeps the entries of a node below a budget.
     pub fn cut_to(&mut self, node: NodeId, front: u32)
         requires node { HasNode self.old node }
@@ -303,6 +334,23 @@ impl Tables {
         self.upper.cut(index, count);
         self.choices.cut(index, count);
         self.fronts[index] = kept;
+    }
+}
+
+/// Appends entries to a row of a bank, and counts them.
+fn append<T: Copy, P: Ledger>(
+    bank: &mut RowBank<T>,
+    row: usize,
+    values: &[T],
+    pushes: &mut Steps<P>,
+)
+    requires row { row < length bank.old }
+    requires room { length (list_at bank.old row) + length values.now ≤ cap_at bank.old row }
+    ensures rows { bank.new ≡ with_list bank.old row (list_at bank.old row ++ values.now) }
+    ensures count { pushes.new ≡ pushes.old + length values.now }
+{
+    for value in values {
+        bank.push(row, *value, pushes);
     }
 }
 

@@ -45,13 +45,8 @@ fn push_two<P: Ledger>(tables: &mut Tables, blank: Blank)
 {
     let mut pushes = Steps::<P>::new(blank);
     tables.push_entry(NodeId(1), Grain::ZERO, Grain::ONE, None, &mut pushes);
-    tables.push_entry(
-        NodeId(1),
-        Grain::ONE,
-        Grain::ONE,
-        Some(ArcId(2)),
-        &mut pushes,
-    );
+    let (one, second) = ([Grain::ONE], [Some(ArcId(2))]);
+    tables.push_extent(NodeId(1), &one, &one, &second, &mut pushes);
 }
 
 #[test]
