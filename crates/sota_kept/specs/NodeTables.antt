@@ -52,9 +52,6 @@ lower_in dest tables i t = if i == dest then ONE else lower_of (tables i) t
 abbrev pub upper_in : ℕ → (ℕ → NodeTable) → ℕ → ℕ → ℕ
 upper_in dest tables i t = if i == dest then ONE else upper_of (tables i) t
 
-abbrev pub choice_in : ℕ → (ℕ → NodeTable) → ℕ → ℕ → Option ℕ
-choice_in dest tables i t = if i == dest then None else choice_at (tables i) t
-
 -- ---- what is kept is right
 -- the entries of a node that is not the destination are those of the grid, which is 0 below the
 -- base as far as the front says. And the base is not above the least time, or the front is not: so
