@@ -8,8 +8,8 @@ use Rattle.sota_online.proofs.Squares.{Stands}
 use Rattle.sota_block.proofs.Crossings.{sum_below-le}
 
 -- a level whose block is whole, and that has masses
-pub count_here : (span k r size blocks : ℕ) → Stands k r size blocks → size ≤ span → square_count span k r ≡ fold_count r
-count_here span k r size blocks st fits =
+pub count_here : (span first k r size blocks : ℕ) → Stands first k r size blocks → size ≤ span → square_count span k r ≡ fold_count r
+count_here span first k r size blocks st fits =
     let e : 2 ^ r ≡ size = sym st.size_is in
     let whole : k % 2 ^ r ≡ 0 = ap (λ (n : ℕ). k % n) e ∙ ap (λ (n : ℕ). n % size) (sym st.whole) ∙ mul-mod_left blocks size in
     let within : 2 ^ r ≤ span = omega arith in
@@ -19,12 +19,12 @@ level_small : (r : ℕ) → r < 2 ^ r
 level_small zero = omega arith
 level_small (suc r) = omega (arith, level_small r, pow-suc 2 r)
 
-pub level_below : (span k r size blocks : ℕ) → Stands k r size blocks → size ≤ span → r + 1 ≤ span
-level_below span k r size blocks st fits = let e = st.size_is in omega (arith, level_small r)
+pub level_below : (span first k r size blocks : ℕ) → Stands first k r size blocks → size ≤ span → r + 1 ≤ span
+level_below span first k r size blocks st fits = let e = st.size_is in omega (arith, level_small r)
 
-pub count_more : (span k r size blocks before now new : ℕ) → Stands k r size blocks → size ≤ span → now ≤ before + sum_below r (λ q. square_count span k q) → new ≤ now + fold_count r
+pub count_more : (span first k r size blocks before now new : ℕ) → Stands first k r size blocks → size ≤ span → now ≤ before + sum_below r (λ q. square_count span k q) → new ≤ now + fold_count r
     → new ≤ before + sum_below (r + 1) (λ q. square_count span k q)
-count_more span k r size blocks before now new st fits low more = rw add-one (omega (arith, count_here span k r size blocks st fits))
+count_more span first k r size blocks before now new st fits low more = rw add-one (omega (arith, count_here span first k r size blocks st fits))
 
 pub count_all : (span k r before now : ℕ) → r ≤ span → now ≤ before + sum_below r (λ q. square_count span k q) → now ≤ before + square_counts span k
 count_all span k r before now within low = omega (arith, sum_below-le r span (λ q. square_count span k q) within)

@@ -1,5 +1,4 @@
 pub mod Counts
-pub mod FewMasses
 pub mod Landing
 pub mod Parts
 pub mod Places

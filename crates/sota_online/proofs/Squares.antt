@@ -3,14 +3,13 @@ use Rattle.std.proofs.Common.{◌≡◌, ℕ, zero, suc, ◌+◌, ◌-◌, ◌*�
 use Rattle.std.proofs.lemmas.Bool.{cases_lt, cases_eq}
 use Rattle.std.proofs.lemmas.Bool.Decides.{nat_tests}
 use Rattle.std.proofs.lemmas.Nat.{pow_pos}
-use Rattle.std.proofs.Math.Nat.{mul-le-mul_right, pow-suc, pow-le-pow_right}
+use Rattle.std.proofs.Math.Nat.{mul-le-mul_right, mul-mod_left, div-add-mod, pow-suc, pow-le-pow_right}
 use Rattle.sota_block.specs.Product.{sum_below}
 use Rattle.sota_block.proofs.Sums.{sum_below-same, sum_below-zero, sum_below-add, sum_below-plus, sum_below-list-le}
 use Rattle.sota_block.specs.Meeting.{met}
 use Rattle.sota_block.proofs.Partners.{met-in, met-early, met-late, met-cases}
-use Rattle.sota_online.specs.Squares.{square, levels, halved, whole_blocks, numbered, Holds}
+use Rattle.sota_online.specs.Squares.{square, levels, halved, whole_blocks, reached, numbered, Holds}
 
--- ---- the value that a mass meets
 -- values up to `to`, in two parts
 pub met-parts : (f : ℕ → ℕ) (mid to p b : ℕ) → mid ≤ to → met f 0 to p b ≡ met f 0 mid p b + met f mid to p b
 met-parts f mid to p b inside =
@@ -100,10 +99,10 @@ levels-same m f g reach R n p same within =
     sum_below-same R (λ q. square m f (2 ^ q) 0 (reach q) p) (λ q. square m g (2 ^ q) 0 (reach q) p) (λ q below. square-same m f g (2 ^ q) 0 (reach q) p (λ a a_below. same a (omega (arith, within q))))
 
 -- nothing is met at first
-pub levels-none : (m f reach : ℕ → ℕ) (R p : ℕ) → ((r : ℕ) → reach r ≡ 0) → levels m f reach R p ≡ 0
+pub levels-none : (m f reach : ℕ → ℕ) (R p : ℕ) → ((r : ℕ) → r < R → reach r ≡ 0) → levels m f reach R p ≡ 0
 unfolding levels
 levels-none m f reach R p none =
-    sum_below-zero R (λ q. square m f (2 ^ q) 0 (reach q) p) (λ q below. rw (none q) (square-nothing m f (2 ^ q) p))
+    sum_below-zero R (λ q. square m f (2 ^ q) 0 (reach q) p) (λ q below. rw (none q below) (square-nothing m f (2 ^ q) p))
   where
     square-nothing : (m f : ℕ → ℕ) (s p : ℕ) → square m f s 0 0 p ≡ 0
     square-nothing m f s p =
@@ -123,11 +122,20 @@ levels-le m reach (suc r) p =
     let last : sum_below s (λ i. m (suc ((s - 1) + i))) ≡ sum_below s (λ i. m (s + i)) = sum_below-same s (λ i. m (suc ((s - 1) + i))) (λ i. m (s + i)) (λ i below. ap m (let e : suc ((s - 1) + i) ≡ s + i = omega (arith, (powers r).0) in e)) in
     omega (arith, levels-le m reach r p, square-le m s 0 (reach r) p)
 
--- THE PARTITION: at a position that the blocks have reached, the levels together hold each product once
-pub levels-all : (m f reach : ℕ → ℕ) (R p : ℕ) → ((r : ℕ) → r < R → p < reach r + 2 ^ r) → levels m f reach R p ≡ sum_below (2 ^ R - 1) (λ i. m (suc i) * met f 0 p p (suc i))
+-- levels that meet nothing leave out their masses
+levels-start : (m f reach : ℕ → ℕ) (first R p : ℕ) → first ≡ R → ((r : ℕ) → r < first → reach r ≡ 0)
+    → levels m f reach R p + sum_below (2 ^ first - 1) (λ i. m (suc i) * met f 0 p p (suc i)) ≡ sum_below (2 ^ R - 1) (λ i. m (suc i) * met f 0 p p (suc i))
+levels-start m f reach first R p here none =
+    let nothing : levels m f reach R p ≡ 0 = levels-none m f reach R p (λ r below. none r (omega arith)) in
+    let same : sum_below (2 ^ first - 1) (λ i. m (suc i) * met f 0 p p (suc i)) ≡ sum_below (2 ^ R - 1) (λ i. m (suc i) * met f 0 p p (suc i)) = ap (λ (n : ℕ). sum_below (2 ^ n - 1) (λ i. m (suc i) * met f 0 p p (suc i))) here in
+    omega arith
+
+-- one level more
+levels-one : (m f reach : ℕ → ℕ) (first r p : ℕ) → p < reach r + 2 ^ r
+    → levels m f reach r p + sum_below (2 ^ first - 1) (λ i. m (suc i) * met f 0 p p (suc i)) ≡ sum_below (2 ^ r - 1) (λ i. m (suc i) * met f 0 p p (suc i))
+    → levels m f reach (suc r) p + sum_below (2 ^ first - 1) (λ i. m (suc i) * met f 0 p p (suc i)) ≡ sum_below (2 ^ suc r - 1) (λ i. m (suc i) * met f 0 p p (suc i))
 unfolding levels
-levels-all m f reach zero p reached = refl
-levels-all m f reach (suc r) p reached =
+levels-one m f reach first r p near before =
     let s : ℕ = 2 ^ r in
     let h : ℕ → ℕ = λ i. m (suc i) * met f 0 p p (suc i) in
     let whole : sum_below (2 ^ suc r - 1) h ≡ sum_below (s - 1) h + sum_below s (λ i. h ((s - 1) + i)) = ap (λ (n : ℕ). sum_below n h) (powers r).1 ∙ sum_below-add (s - 1) s h in
@@ -135,19 +143,30 @@ levels-all m f reach (suc r) p reached =
     let e : suc ((s - 1) + i) ≡ s + i = omega (arith, (powers r).0) in
     let meets : met f 0 p p (s + i) ≡ met f 0 (reach r) p (s + i) =
     ⊎_elim (λ (early : p < s + i). rw (met-early f 0 p p (s + i) (omega arith), met-early f 0 (reach r) p (s + i) (omega arith)) refl)
-    (λ (there : s + i ≤ p). rw (met-in f 0 p p (s + i) (omega arith) (omega (arith, (powers r).0)), met-in f 0 (reach r) p (s + i) (omega arith) (omega (arith, reached r (omega arith)))) refl)
+    (λ (there : s + i ≤ p). rw (met-in f 0 p p (s + i) (omega arith) (omega (arith, (powers r).0)), met-in f 0 (reach r) p (s + i) (omega arith) (omega (arith, near))) refl)
     (cases_lt p (s + i)) in
     ap (λ (b : ℕ). m b * met f 0 p p b) e ∙ ap (λ (v : ℕ). m (s + i) * v) meets) in
-    omega (arith, levels-all m f reach r p (λ q below. reached q (omega arith)))
+    omega (arith, before)
 
-pub levels-plain : (m f reach : ℕ → ℕ) (R p : ℕ) → ((r : ℕ) → r < R → p < reach r + 2 ^ r) → p < 2 ^ R → levels m f reach R p ≡ sum_below p (λ i. m (suc i) * f (p - suc i))
-levels-plain m f reach R p reached few =
+-- THE PARTITION: at a position that the blocks have reached, the levels from `first` on and the masses below them together
+-- hold each product once
+pub levels-all : (m f reach : ℕ → ℕ) (first R p : ℕ) → first ≤ R → ((r : ℕ) → r < first → reach r ≡ 0) → ((r : ℕ) → first ≤ r → r < R → p < reach r + 2 ^ r)
+    → levels m f reach R p + sum_below (2 ^ first - 1) (λ i. m (suc i) * met f 0 p p (suc i)) ≡ sum_below (2 ^ R - 1) (λ i. m (suc i) * met f 0 p p (suc i))
+levels-all m f reach first zero p low none far = levels-start m f reach first zero p (omega arith) none
+levels-all m f reach first (suc r) p low none far =
+    ⊎_elim (λ (here : first ≡ suc r). levels-start m f reach first (suc r) p here none)
+    (λ (apart : first ≡ suc r → ⊥). levels-one m f reach first r p (far r (omega arith) (omega arith)) (levels-all m f reach first r p (omega arith) none (λ q from below. far q from (omega arith))))
+    (cases_eq first (suc r))
+
+pub levels-plain : (m f reach : ℕ → ℕ) (first R p : ℕ) → first ≤ R → ((r : ℕ) → r < first → reach r ≡ 0) → ((r : ℕ) → first ≤ r → r < R → p < reach r + 2 ^ r) → p < 2 ^ R
+    → levels m f reach R p + sum_below (2 ^ first - 1) (λ i. m (suc i) * met f 0 p p (suc i)) ≡ sum_below p (λ i. m (suc i) * f (p - suc i))
+levels-plain m f reach first R p low none far few =
     let h : ℕ → ℕ = λ i. m (suc i) * met f 0 p p (suc i) in
     let rest : ℕ = 2 ^ R - 1 - p in
     let size : 2 ^ R - 1 ≡ p + rest = omega arith in
     let back : sum_below rest (λ k. h (p + k)) ≡ 0 = sum_below-zero rest (λ k. h (p + k)) (λ k below. times_zero (m (suc (p + k))) (met f 0 p p (suc (p + k))) (met-early f 0 p p (suc (p + k)) (omega arith))) in
     let front : sum_below p h ≡ sum_below p (λ i. m (suc i) * f (p - suc i)) = sum_below-same p h (λ i. m (suc i) * f (p - suc i)) (λ i below. ap (λ (v : ℕ). m (suc i) * v) (met-in f 0 p p (suc i) (omega arith) (omega arith))) in
-    levels-all m f reach R p reached ∙ ap (λ (n : ℕ). sum_below n h) size ∙ omega (arith, sum_below-add p rest h, back, front)
+    levels-all m f reach first R p low none far ∙ ap (λ (n : ℕ). sum_below n h) size ∙ omega (arith, sum_below-add p rest h, back, front)
 
 -- ---- blocks that are whole
 pub halved-same : (n k r q : ℕ) → halved n r ≡ halved k r → r ≤ q → halved n q ≡ halved k q
@@ -169,36 +188,100 @@ whole-near n (suc r) =
     let high' : (2 * (h / 2) + 1) * s ≡ (2 * (h / 2)) * s + s = omega arith in
     (omega (arith, before.0), omega (arith, before.1))
 
+-- so many blocks are whole
+pub div_whole : (k s : ℕ) → k % s ≡ 0 → k / s * s ≡ k
+div_whole k s none = let e : s * (k / s) + k % s ≡ k = div-add-mod k s in omega arith
+
+quotient_is : (b c s n : ℕ) → b * s ≤ n → n < b * s + s → c * s ≤ n → n < c * s + s → b ≡ c
+quotient_is b c s n low high low' high' =
+    ⊎_elim (λ (less : b < c).
+    let step : (b + 1) * s ≤ c * s = mul-le-mul_right s (omega arith) in
+    let one : (b + 1) * s ≡ b * s + s = omega arith in
+    absurd (omega arith))
+    (λ (from : c ≤ b). ⊎_elim (λ (more : c < b).
+    let step : (c + 1) * s ≤ b * s = mul-le-mul_right s (omega arith) in
+    let one : (c + 1) * s ≡ c * s + s = omega arith in
+    absurd (omega arith))
+    (λ (up : b ≤ c). omega arith)
+    (cases_lt c b))
+    (cases_lt b c)
+
+-- levels below the first meet nothing, and the others their whole blocks
+pub reached-below : (first n r : ℕ) → r < first → reached first n r ≡ 0
+reached-below first n r below = grind (arith, nat_tests)
+
+pub reached-from : (first n r : ℕ) → first ≤ r → reached first n r ≡ whole_blocks n r
+reached-from first n r from = grind (arith, nat_tests)
+
+pub reached-le : (first n r : ℕ) → reached first n r ≤ n
+reached-le first n r =
+    ⊎_elim (λ (below : r < first). rw (reached-below first n r below) (omega arith)) (λ (from : first ≤ r). rw (reached-from first n r from) (whole-near n r).0) (cases_lt r first)
+
+pub reached-near : (first n r : ℕ) → first ≤ r → n < reached first n r + 2 ^ r
+reached-near first n r from = rw (reached-from first n r from) (whole-near n r).1
+
+-- a value that ends no block of the first level ends none of a higher one
+pub reached-same : (first k r : ℕ) → (k % 2 ^ first ≡ 0 → ⊥) → reached first (k - 1) r ≡ reached first k r
+reached-same first k r odd =
+    ⊎_elim (λ (below : r < first). rw (reached-below first (k - 1) r below, reached-below first k r below) refl)
+    (λ (from : first ≤ r).
+    let s : ℕ = 2 ^ first in
+    let h : ℕ = halved k first in
+    let apart : h * s ≡ k → ⊥ = λ e. odd (ap (λ (n : ℕ). n % s) (sym e) ∙ mul-mod_left h s) in
+    let now = whole-near k first in
+    let before = whole-near (k - 1) first in
+    let same : halved (k - 1) first ≡ h = quotient_is (halved (k - 1) first) h s (k - 1) (omega (arith, before.0)) (omega (arith, before.1)) (omega (arith, now.0, apart)) (omega (arith, now.1)) in
+    reached-from first (k - 1) r from ∙ ap (λ (x : ℕ). x * 2 ^ r) (halved-same (k - 1) k first r same from) ∙ sym (reached-from first k r from))
+    (cases_lt r first)
+
 -- ---- a feed, level by level: the levels below r have met the blocks of k values, the others those of one value less
-pub mixed : ℕ → ℕ → ℕ → ℕ
-mixed k r q = cond (ltb q r) (whole_blocks k q) (whole_blocks (k - 1) q)
+pub mixed : ℕ → ℕ → ℕ → ℕ → ℕ
+mixed first k r q = cond (ltb q r) (reached first k q) (reached first (k - 1) q)
 
-pub mixed-done : (k r q : ℕ) → q < r → mixed k r q ≡ whole_blocks k q
+pub mixed-done : (first k r q : ℕ) → q < r → mixed first k r q ≡ reached first k q
 unfolding mixed
-mixed-done k r q done = grind (arith, nat_tests)
+mixed-done first k r q done = grind (arith, nat_tests)
 
-pub mixed-left : (k r q : ℕ) → r ≤ q → mixed k r q ≡ whole_blocks (k - 1) q
+pub mixed-left : (first k r q : ℕ) → r ≤ q → mixed first k r q ≡ reached first (k - 1) q
 unfolding mixed
-mixed-left k r q left = grind (arith, nat_tests)
+mixed-left first k r q left = grind (arith, nat_tests)
 
-pub mixed-other : (k r q : ℕ) → (q ≡ r → ⊥) → mixed k (suc r) q ≡ mixed k r q
-mixed-other k r q apart =
-    ⊎_elim (λ (before : q < r). rw (mixed-done k (suc r) q (omega arith), mixed-done k r q before) refl)
-    (λ (from : r ≤ q). rw (mixed-left k (suc r) q (omega arith), mixed-left k r q from) refl)
+pub mixed-other : (first k r q : ℕ) → (q ≡ r → ⊥) → mixed first k (suc r) q ≡ mixed first k r q
+mixed-other first k r q apart =
+    ⊎_elim (λ (before : q < r). rw (mixed-done first k (suc r) q (omega arith), mixed-done first k r q before) refl)
+    (λ (from : r ≤ q). rw (mixed-left first k (suc r) q (omega arith), mixed-left first k r q from) refl)
     (cases_lt q r)
 
+-- before the first level
+pub mixed-start : (first k q : ℕ) → mixed first k first q ≡ reached first (k - 1) q
+mixed-start first k q =
+    ⊎_elim (λ (before : q < first). rw (mixed-done first k first q before, reached-below first k q before, reached-below first (k - 1) q before) refl)
+    (λ (from : first ≤ q). mixed-left first k first q from)
+    (cases_lt q first)
+
 -- what is known before level r: so far each block was the second half of a larger one
-pub record Stands (k r size blocks : ℕ) : Type 0 where
+pub record Stands (first k r size blocks : ℕ) : Type 0 where
+  pub from : first ≤ r
   pub size_is : size ≡ 2 ^ r
   pub blocks_is : blocks ≡ halved k r
   pub before_is : halved (k - 1) r + 1 ≡ blocks
   pub whole : blocks * size ≡ k
 
-pub Stands-first : (k : ℕ) → 1 ≤ k → Stands k 0 1 k
-Stands-first k some = record { size_is = omega arith; blocks_is = refl; before_is = omega arith; whole = omega arith }
+pub Stands-first : (first k size blocks : ℕ) → 1 ≤ k → size ≡ 2 ^ first → blocks * size ≡ k → Stands first k first size blocks
+Stands-first first k size blocks some is whole =
+    let s : ℕ = 2 ^ first in
+    let some' : 1 ≤ s = pow_pos first in
+    let whole' : blocks * s ≡ k = ap (λ (x : ℕ). blocks * x) (sym is) ∙ whole in
+    let now = whole-near k first in
+    let before = whole-near (k - 1) first in
+    let one : 1 ≤ blocks = ⊎_elim (λ (none : blocks < 1). let e : blocks ≡ 0 = omega arith in let z : blocks * s ≡ 0 = ap (λ (x : ℕ). x * s) e ∙ omega arith in absurd (omega arith)) (λ (low : 1 ≤ blocks). low) (cases_lt blocks 1) in
+    let less : (blocks - 1) * s + s ≡ k = (let e : (blocks - 1) + 1 ≡ blocks = omega arith in let t : ((blocks - 1) + 1) * s ≡ (blocks - 1) * s + s = omega arith in sym t ∙ ap (λ (x : ℕ). x * s) e ∙ whole') in
+    let b : blocks ≡ halved k first = quotient_is blocks (halved k first) s k (omega arith) (omega arith) now.0 now.1 in
+    let d : halved (k - 1) first ≡ blocks - 1 = quotient_is (halved (k - 1) first) (blocks - 1) s (k - 1) before.0 before.1 (omega arith) (omega arith) in
+    record { from = omega arith; size_is = is; blocks_is = b; before_is = omega arith; whole = whole }
 
-pub Stands-next : (k r size blocks : ℕ) → Stands k r size blocks → blocks % 2 ≡ 0 → Stands k (suc r) (size * 2) (blocks / 2)
-Stands-next k r size blocks st even =
+pub Stands-next : (first k r size blocks : ℕ) → Stands first k r size blocks → blocks % 2 ≡ 0 → Stands first k (suc r) (size * 2) (blocks / 2)
+Stands-next first k r size blocks st even =
     let h : ℕ = blocks / 2 in
     let e : blocks ≡ h * 2 = omega arith in
     let product : h * (size * 2) ≡ (h * 2) * size = omega arith in
@@ -206,7 +289,9 @@ Stands-next k r size blocks st even =
     let a = st.size_is in
     let b = st.blocks_is in
     let d = st.before_is in
+    let c = st.from in
     record {
+      from = omega arith;
       size_is = omega (arith, pow-suc 2 r);
       blocks_is = ap (λ (x : ℕ). x / 2) b;
       before_is = omega arith;
@@ -214,8 +299,8 @@ Stands-next k r size blocks st even =
     }
 
 -- the block that level r meets
-pub Stands-block : (k r size blocks : ℕ) → Stands k r size blocks → (mixed k r r ≡ k - size) × ((mixed k (suc r) r ≡ k) × (size ≤ k))
-Stands-block k r size blocks st =
+pub Stands-block : (first k r size blocks : ℕ) → Stands first k r size blocks → (mixed first k r r ≡ k - size) × ((mixed first k (suc r) r ≡ k) × (size ≤ k))
+Stands-block first k r size blocks st =
     let a = st.size_is in
     let b = st.blocks_is in
     let d = st.before_is in
@@ -224,45 +309,47 @@ Stands-block k r size blocks st =
     let product : (h + 1) * size ≡ k = ap (λ (x : ℕ). x * size) d ∙ st.whole in
     let early : whole_blocks (k - 1) r ≡ h * size = ap (λ (x : ℕ). h * x) (sym a) in
     let parts : (h + 1) * size ≡ h * size + size = omega arith in
-    (mixed-left k r r (omega arith) ∙ omega arith, (mixed-done k (suc r) r (omega arith) ∙ after ∙ st.whole, omega arith))
+    (mixed-left first k r r (omega arith) ∙ reached-from first (k - 1) r st.from ∙ omega arith, (mixed-done first k (suc r) r (omega arith) ∙ reached-from first k r st.from ∙ after ∙ st.whole, omega arith))
 
 -- where no larger block is whole, the other levels have met what they meet
-pub Stands-last : (k r size blocks : ℕ) → Stands k r size blocks → (blocks % 2 ≡ 0 → ⊥) → (q : ℕ) → mixed k (suc r) q ≡ whole_blocks k q
-Stands-last k r size blocks st odd q =
+pub Stands-last : (first k r size blocks : ℕ) → Stands first k r size blocks → (blocks % 2 ≡ 0 → ⊥) → (q : ℕ) → mixed first k (suc r) q ≡ reached first k q
+Stands-last first k r size blocks st odd q =
     let b = st.blocks_is in
     let d = st.before_is in
+    let c = st.from in
     let halves : halved (k - 1) (suc r) ≡ halved k (suc r) = omega arith in
-    ⊎_elim (λ (before : q < suc r). mixed-done k (suc r) q before)
-    (λ (from : suc r ≤ q). mixed-left k (suc r) q from ∙ ap (λ (x : ℕ). x * 2 ^ q) (halved-same (k - 1) k (suc r) q halves from))
+    ⊎_elim (λ (before : q < suc r). mixed-done first k (suc r) q before)
+    (λ (from : suc r ≤ q).
+    mixed-left first k (suc r) q from ∙ reached-from first (k - 1) q (omega arith) ∙ ap (λ (x : ℕ). x * 2 ^ q) (halved-same (k - 1) k (suc r) q halves from) ∙ sym (reached-from first k q (omega arith)))
     (cases_lt q (suc r))
 
 -- a level's square is what the step adds
-pub meets-next : (m g : ℕ → ℕ) (R k r size blocks p : ℕ) → Stands k r size blocks → r < R
-    → levels m g (mixed k (suc r)) R p ≡ levels m g (mixed k r) R p + square m g size (k - size) k p
-meets-next m g R k r size blocks p st below =
-    let block = Stands-block k r size blocks st in
+pub meets-next : (m g : ℕ → ℕ) (R first k r size blocks p : ℕ) → Stands first k r size blocks → r < R
+    → levels m g (mixed first k (suc r)) R p ≡ levels m g (mixed first k r) R p + square m g size (k - size) k p
+meets-next m g R first k r size blocks p st below =
+    let block = Stands-block first k r size blocks st in
     let a = block.0 in
     let b = block.1.0 in
     let sized : 2 ^ r ≡ size = sym st.size_is in
-    levels-more m g (mixed k r) (mixed k (suc r)) R r p below (λ q apart. mixed-other k r q apart) (omega arith)
-    ∙ ap (λ (x : ℕ). levels m g (mixed k r) R p + square m g x (mixed k r r) (mixed k (suc r) r) p) sized
-    ∙ ap (λ (x : ℕ). levels m g (mixed k r) R p + square m g size x (mixed k (suc r) r) p) a
-    ∙ ap (λ (x : ℕ). levels m g (mixed k r) R p + square m g size (k - size) x p) b
+    levels-more m g (mixed first k r) (mixed first k (suc r)) R r p below (λ q apart. mixed-other first k r q apart) (omega arith)
+    ∙ ap (λ (x : ℕ). levels m g (mixed first k r) R p + square m g x (mixed first k r r) (mixed first k (suc r) r) p) sized
+    ∙ ap (λ (x : ℕ). levels m g (mixed first k r) R p + square m g size x (mixed first k (suc r) r) p) a
+    ∙ ap (λ (x : ℕ). levels m g (mixed first k r) R p + square m g size (k - size) x p) b
 
 -- a level's square, added to two numbers that hold the products so far
-pub Holds-next : (m f : ℕ → ℕ) (R k r size blocks p low high low' high' : ℕ) → Stands k r size blocks → r < R
+pub Holds-next : (m f : ℕ → ℕ) (R first k r size blocks p low high low' high' : ℕ) → Stands first k r size blocks → r < R
     → low' + 4294967296 * high' ≡ low + 4294967296 * high + square m f size (k - size) k p
     → low' ≤ low + square m (λ a. 1) size (k - size) k p * 4294967295
     → high' ≤ high + square m (λ a. 1) size (k - size) k p * 4294967295
-    → Holds m f (mixed k r) R p low high → Holds m f (mixed k (suc r)) R p low' high'
-Holds-next m f R k r size blocks p low high low' high' st below sums lows highs held =
+    → Holds m f (mixed first k r) R p low high → Holds m f (mixed first k (suc r)) R p low' high'
+Holds-next m f R first k r size blocks p low high low' high' st below sums lows highs held =
     let x = held.sum in
     let y = held.low_le in
     let z = held.high_le in
     record {
-      sum = omega (arith, meets-next m f R k r size blocks p st below);
-      low_le = omega (arith, meets-next m (λ a. 1) R k r size blocks p st below);
-      high_le = omega (arith, meets-next m (λ a. 1) R k r size blocks p st below);
+      sum = omega (arith, meets-next m f R first k r size blocks p st below);
+      low_le = omega (arith, meets-next m (λ a. 1) R first k r size blocks p st below);
+      high_le = omega (arith, meets-next m (λ a. 1) R first k r size blocks p st below);
     }
 
 -- levels that meet as much
@@ -278,13 +365,13 @@ Holds-reach m f reach reach' R p low high same held =
     Holds-same m f reach reach' R p low high (λ g. levels-agree m g reach reach' R p (λ q below. ap (λ (n : ℕ). square m g (2 ^ q) 0 n p) (same q below))) held
 
 -- the levels from r on have no masses
-pub Holds-no_masses : (m f : ℕ → ℕ) (R k r p low high : ℕ) → ((b : ℕ) → 2 ^ r ≤ b → m b ≡ 0) → Holds m f (mixed k r) R p low high → Holds m f (whole_blocks k) R p low high
-Holds-no_masses m f R k r p low high none held =
-    Holds-same m f (mixed k r) (whole_blocks k) R p low high (λ g. levels-agree m g (mixed k r) (whole_blocks k) R p (λ q below.
-    ⊎_elim (λ (before : q < r). ap (λ (n : ℕ). square m g (2 ^ q) 0 n p) (mixed-done k r q before))
+pub Holds-no_masses : (m f : ℕ → ℕ) (R first k r p low high : ℕ) → ((b : ℕ) → 2 ^ r ≤ b → m b ≡ 0) → Holds m f (mixed first k r) R p low high → Holds m f (reached first k) R p low high
+Holds-no_masses m f R first k r p low high none held =
+    Holds-same m f (mixed first k r) (reached first k) R p low high (λ g. levels-agree m g (mixed first k r) (reached first k) R p (λ q below.
+    ⊎_elim (λ (before : q < r). ap (λ (n : ℕ). square m g (2 ^ q) 0 n p) (mixed-done first k r q before))
     (λ (from : r ≤ q).
     let far : (b : ℕ) → 2 ^ q ≤ b → m b ≡ 0 = λ b low. none b (omega (arith, pow-le-pow_right {n = 2} (omega arith) {i = r} {j = q} from)) in
-    square-no_masses m g (2 ^ q) 0 (mixed k r q) p far ∙ sym (square-no_masses m g (2 ^ q) 0 (whole_blocks k q) p far))
+    square-no_masses m g (2 ^ q) 0 (mixed first k r q) p far ∙ sym (square-no_masses m g (2 ^ q) 0 (reached first k q) p far))
     (cases_lt q r))) held
 
 -- the values may change where no level has met them

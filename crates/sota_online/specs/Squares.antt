@@ -1,6 +1,6 @@
 -- Which products a summer that works by squares has done, apart from what it means.
 use Rattle.std.specs.Prelude.{ℕ, zero, suc, ◌+◌, ◌-◌, ◌*◌, ◌/◌, ◌^◌, ◌%◌, ◌==◌, ◌&&◌, ◌<◌, ◌≤◌}
-use Rattle.std.specs.Prelude.{◌≡◌, nat_le, if◌then◌else◌, List, length, slice_index, take, sum}
+use Rattle.std.specs.Prelude.{◌≡◌, nat_le, nat_lt, if◌then◌else◌, List, length, slice_index, take, sum}
 use Rattle.sota_units.specs.Rounding.{ONE, SCALE_LIMIT}
 use Rattle.sota_block.specs.Meeting.{met}
 use Rattle.sota_block.specs.Product.{sum_below, fold_count}
@@ -26,6 +26,10 @@ halved n (suc r) = halved n r / 2
 abbrev pub whole_blocks : ℕ → ℕ → ℕ
 whole_blocks n r = halved n r * 2 ^ r
 
+-- The same where the levels below `first` are left out: they meet nothing
+abbrev pub reached : ℕ → ℕ → ℕ → ℕ
+reached first n r = if nat_lt r first then 0 else whole_blocks n r
+
 -- enough levels for each kernel
 abbrev pub LEVELS : ℕ
 LEVELS = 17
@@ -36,15 +40,19 @@ numbered kernel b = slice_index kernel (b - 1)
 
 -- Two numbers that hold the products at a position: of the lower and of the upper halves of the
 -- values. Neither is large, since each mass meets at most one value there
-pub record Holds (masses values : ℕ → ℕ) (reach : ℕ → ℕ) (count position low high : ℕ) : Type 0 where
+pub record Holds (masses values reach : ℕ → ℕ) (count position low high : ℕ) : Type 0 where
   pub sum : low + 4294967296 * high ≡ levels masses values reach count position
   pub low_le : low ≤ levels masses (λ a. 1) reach count position * 4294967295
   pub high_le : high ≤ levels masses (λ a. 1) reach count position * 4294967295
 
--- What a summer by squares keeps: the kernel and as many zeros, values of which the first `fed`
--- were fed, and at each position two numbers that hold the products of all whole blocks
-pub record IsWorked (masses : List ℕ) (span : ℕ) (values : List ℕ) (fed : ℕ)
+-- What a summer by squares keeps: the kernel and as many zeros, the least level and size of its
+-- squares, values of which the first `fed` were fed, and at each position two numbers that hold the
+-- products of all whole blocks of these levels
+pub record IsWorked (masses : List ℕ) (span first smallest : ℕ) (values : List ℕ) (fed : ℕ)
     (low high thin wide : List ℕ) : Type 0 where
+  pub size_is : smallest ≡ 2 ^ first
+  pub first_ge : 2 ≤ first
+  pub first_le : first ≤ 7
   pub twice : length masses ≡ 2 * span
   pub none_past : (b : ℕ) → span < b → numbered masses b ≡ 0
   pub few : sum masses ≤ SCALE_LIMIT
@@ -57,7 +65,7 @@ pub record IsWorked (masses : List ℕ) (span : ℕ) (values : List ℕ) (fed : 
   pub wide_room : 6 * span ≤ length wide
   pub small : (a : ℕ) → slice_index values a ≤ ONE
   pub held : (p : ℕ) → p < length low
-      → Holds (numbered masses) (λ a. slice_index (take fed values) a) (λ r. whole_blocks fed r)
+      → Holds (numbered masses) (λ a. slice_index (take fed values) a) (λ r. reached first fed r)
       LEVELS p (slice_index low p) (slice_index high p)
 
 -- how many products a square of the blocks that the k-th value ends may take, at level r, of a

@@ -1,13 +1,14 @@
 // Sums by squares.
-ghost use Rattle.std.specs.Prelude.{◌≡◌, ◌≤◌, ◌+◌, [], length, false, IfOk};
+ghost use Rattle.std.specs.Prelude.{◌≡◌, ◌≤◌, ◌+◌, ◌^◌, [], length, false, IfOk};
 ghost use Rattle.sota_hist.specs.Time.{is_closed};
 ghost use Rattle.sota_online.specs.Summer.{kernel_of, plain, fed_more};
 ghost use Rattle.sota_online.specs.Squares.{square_counts};
 
 use crate::Summer;
-use crate::halves::joined;
+use crate::halves::{crossed, joined};
 use crate::kernel::kernel_masses;
 use crate::levels::work_off;
+use crate::square::some_masses;
 use sota_hist::Histogram;
 use sota_units::{Grain, Heft, NoMemory, Steps};
 use std::alloc::Global;
@@ -17,12 +18,17 @@ use std::sync::ledger::Ledger;
 /// A summer that works by squares. Masses and values are numbered, masses from 1 and values from 0,
 /// and a square is made of the masses from a power of two up to the next and of as many values, a
 /// whole block of them. It is worked off when its block is complete, and it lands at positions
-/// after the block. So each sum is there when it is asked for.
+/// after the block, so what squares make of a sum is there when it is asked for. The smallest
+/// squares would cost more than they save: `sum` adds the products of the first 31 masses itself,
+/// or of the first 127 where many of these are not 0. No counter counts them.
 #[derive(Drop)]
 pub struct BlockSummer {
     // The kernel's masses, and as many zeros.
     masses: Vec<u32>,
     span: usize,
+    // The level and the size of the smallest squares: two to the level.
+    first: u32,
+    smallest: usize,
     values: Vec<u64>,
     fed: usize,
     // The sums by positions, of the lower and of the upper halves of values.
@@ -47,8 +53,8 @@ impl Model for BlockSummer {
       room = length s.values.items - s.fed;
     } };
 
-    ghost invariant = { λ s. IsWorked s.masses.items s.span s.values.items s.fed
-        s.low.items s.high.items s.thin.items s.wide.items };
+    ghost invariant = { λ s. IsWorked s.masses.items s.span s.first s.smallest
+        s.values.items s.fed s.low.items s.high.items s.thin.items s.wide.items };
 }
 
 impl Summer for BlockSummer {
@@ -59,6 +65,7 @@ impl Summer for BlockSummer {
         let span = masses.len();
         let zeros = vec![in alloc; 0; span]?;
         masses.extend_from_slice(&zeros)?;
+        let (first, smallest) = smallest_square(&masses);
         let values = vec![in alloc; 0; length as usize]?;
         let places = length as usize + 2 * span + 1;
         let low = vec![in alloc; 0; places]?;
@@ -68,6 +75,8 @@ impl Summer for BlockSummer {
         Ok(BlockSummer {
             masses,
             span,
+            first,
+            smallest,
             values,
             fed: 0,
             low,
@@ -99,6 +108,8 @@ impl Summer for BlockSummer {
         work_off(
             &self.masses,
             self.span,
+            self.first,
+            self.smallest,
             &self.values[..self.fed],
             &mut self.low,
             &mut self.high,
@@ -110,6 +121,23 @@ impl Summer for BlockSummer {
 
     fn sum(&self, position: u32) -> Heft {
         let place = position as usize;
-        joined(self.low[place], self.high[place])
+        let few = place.min(self.smallest - 1).min(self.span);
+        let near = crossed(&self.masses[..few], &self.values[place - few..place]);
+        joined(self.low[place], self.high[place]).plus(near)
+    }
+}
+
+// The level and the size of the smallest squares of a kernel: level 5 where less than a quarter of
+// the first masses is not 0, since few masses cost little, and else level 7.
+fn smallest_square(masses: &[u32]) -> (u32, usize)
+    ensures size { result.1 ≡ 2 ^ result.0 }
+    ensures first_ge { 2 ≤ result.0 }
+    ensures first_le { result.0 ≤ 7 }
+{
+    let near = masses.len().min(127);
+    if 4 * some_masses(&masses[..near]) < near {
+        (5, 32)
+    } else {
+        (7, 128)
     }
 }

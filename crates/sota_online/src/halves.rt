@@ -1,5 +1,5 @@
 // Sums in two halves of 32 bits each.
-ghost use Rattle.std.specs.Prelude.{◌≡◌, ◌+◌, ◌-◌, ◌*◌, ◌≤◌, length, sum, slice_index};
+ghost use Rattle.std.specs.Prelude.{◌≡◌, ◌+◌, ◌-◌, ◌*◌, ◌^◌, ◌<◌, ◌≤◌, length, sum, slice_index};
 ghost use Rattle.sota_units.specs.Rounding.{SCALE_LIMIT, HEFT_LIMIT};
 ghost use Rattle.sota_block.specs.Product.{sum_below};
 
@@ -8,7 +8,8 @@ use sota_units::Heft;
 /// The heft of two halves.
 pub(crate) fn joined(low: u64, high: u64) -> Heft
     requires { low + 4294967296 * high ≤ HEFT_LIMIT }
-    ensures { result ≡ low + 4294967296 * high }
+    ensures value { result ≡ low + 4294967296 * high }
+    ensures within { result < 2 ^ 97 }
 {
     match Heft::new(u128::from(high) * 4_294_967_296 + u128::from(low)) {
         Some(heft) => heft,
@@ -20,8 +21,9 @@ pub(crate) fn joined(low: u64, high: u64) -> Heft
 pub(crate) fn crossed(masses: &[u32], values: &[u64]) -> Heft
     requires same_length { length values.now ≡ length masses.now }
     requires few { sum masses.now ≤ SCALE_LIMIT }
-    ensures { result ≡ sum_below (length masses.now)
+    ensures value { result ≡ sum_below (length masses.now)
         (λ b. slice_index masses.now b * slice_index values.now (length masses.now - 1 - b)) }
+    ensures within { result < 2 ^ 97 }
 {
     let length = masses.len();
     let mut low = 0;

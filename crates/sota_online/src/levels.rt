@@ -4,17 +4,19 @@ ghost use Rattle.sota_units.specs.Rounding.{ONE, SCALE_LIMIT};
 ghost use Rattle.sota_block.specs.Meeting.{meeting};
 ghost use Rattle.sota_block.specs.Product.{IsBlockLength, fold_count};
 ghost use Rattle.sota_online.specs.Products.{most};
-ghost use Rattle.sota_online.specs.Squares.{Holds, LEVELS, numbered, whole_blocks, square_counts};
+ghost use Rattle.sota_online.specs.Squares.{Holds, LEVELS, numbered, reached, square_counts};
 
 use crate::square::add_square;
 use sota_units::Steps;
 use std::sync::ledger::Ledger;
 
-/// Works off each square that the last value makes whole: at each size, a power of two, of which
-/// the number of values is a multiple.
+/// Works off each square that the last value makes whole: at each size, a power of two from the
+/// smallest on, of which the number of values is a multiple.
 pub(crate) fn work_off<M: Ledger>(
     masses: &[u32],
     span: usize,
+    first: u32,
+    smallest: usize,
     values: &[u64],
     low: &mut [u64],
     high: &mut [u64],
@@ -24,6 +26,9 @@ pub(crate) fn work_off<M: Ledger>(
 )
     requires some { 1 ≤ length values.now }
     requires few_values { length values.now ≤ 65536 }
+    requires size { smallest ≡ 2 ^ first }
+    requires first_ge { 2 ≤ first }
+    requires first_le { first ≤ 7 }
     requires twice { length masses.now ≡ 2 * span }
     requires none_past { (b : ℕ) → span < b → numbered masses.now b ≡ 0 }
     requires few { sum masses.now ≤ SCALE_LIMIT }
@@ -34,18 +39,22 @@ pub(crate) fn work_off<M: Ledger>(
     requires wide_room { 6 * span ≤ length wide.old }
     requires held { (p : ℕ) → p < length low.old
         → Holds (numbered masses.now) (λ a. slice_index values.now a)
-        (λ r. whole_blocks (length values.now - 1) r) LEVELS p
+        (λ r. reached first (length values.now - 1) r) LEVELS p
         (slice_index low.old p) (slice_index high.old p) }
     ensures held { (p : ℕ) → p < length low.new
         → Holds (numbered masses.now) (λ a. slice_index values.now a)
-        (λ r. whole_blocks (length values.now) r) LEVELS p
+        (λ r. reached first (length values.now) r) LEVELS p
         (slice_index low.new p) (slice_index high.new p) }
     ensures count { products.new ≤ products.old + square_counts span (length values.now) }
 {
     let known = values.len();
-    let mut size = 1;
-    let mut blocks = known;
-    for _level in 0..17u32 {
+    let past = known & (smallest - 1);
+    if past != 0 {
+        return;
+    }
+    let mut size = smallest;
+    let mut blocks = known >> first;
+    for level in first..17 {
         if size > span {
             return;
         }
@@ -80,6 +89,7 @@ fn add_at<M: Ledger>(
     products: &mut Steps<M>,
 )
     requires block { IsBlockLength (length masses.now) }
+    requires eights { 4 ≤ length masses.now }
     requires same_length { length values.now ≡ length masses.now }
     requires low_room { at + 2 * length masses.now ≤ length low.old }
     requires high_room { at + 2 * length masses.now ≤ length high.old }

@@ -8,7 +8,6 @@ mod kernel;
 pub mod laws;
 mod levels;
 mod plain;
-mod rows;
 mod square;
 mod summer;
 #[cfg(test)]

@@ -1,4 +1,4 @@
-use Rattle.std.proofs.Common.{count_by, nat_lt, ◌≤◌, length, slice_index, arith}
+use Rattle.std.proofs.Common.{count_by, nat_lt, ◌≡◌, ℕ, ◌+◌, ◌*◌, ◌<◌, ◌≤◌, length, slice_index, arith}
 use Rattle.std.proofs.Math.Nat.{mul-le-mul_right}
 use Rattle.sota_block.proofs.Meetings.{meeting-none}
 use Rattle.sota_online.proofs.square.add_square.Goals as goal
@@ -9,5 +9,5 @@ returns-then-some-eq0-clause-sums g c = λ k below.
 
 pub add_plain-requires-clause-taken : goal.add_plain-requires-clause-taken
 add_plain-requires-clause-taken g c =
-    let more : count_by (λ m. nat_lt 0 m) c.args.masses.now ≤ c.counted.result = omega (arith, c.some_masses-some.ensures.count, c.counted.ensures.all) in
+    let more : count_by (λ m. nat_lt 0 m) c.args.masses.now ≤ c.some_masses-some.result = omega (arith, c.some_masses-some.ensures.count) in
     mul-le-mul_right (length c.args.masses.now) more
