@@ -1,4 +1,4 @@
-use Rattle.std.proofs.Common.{count_by, nat_lt, ◌≡◌, ℕ, ◌+◌, ◌*◌, ◌<◌, ◌≤◌, length, slice_index, arith}
+use Rattle.std.proofs.Common.{count_by, nat_lt, ◌≤◌, length, slice_index, arith}
 use Rattle.std.proofs.Math.Nat.{mul-le-mul_right}
 use Rattle.sota_block.proofs.Meetings.{meeting-none}
 use Rattle.sota_online.proofs.square.add_square.Goals as goal
