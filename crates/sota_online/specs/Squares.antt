@@ -1,6 +1,7 @@
 -- Which products a summer that works by squares has done, apart from what it means.
 use Rattle.std.specs.Prelude.{ℕ, zero, suc, ◌+◌, ◌-◌, ◌*◌, ◌/◌, ◌^◌, ◌%◌, ◌==◌, ◌&&◌, ◌<◌, ◌≤◌}
-use Rattle.std.specs.Prelude.{◌≡◌, nat_le, nat_lt, if◌then◌else◌, List, length, slice_index, take, sum}
+use Rattle.std.specs.Prelude.{◌≡◌, nat_le, nat_lt, if◌then◌else◌}
+use Rattle.std.specs.Prelude.{List, length, slice_index, take, sum}
 use Rattle.sota_units.specs.Rounding.{ONE, SCALE_LIMIT}
 use Rattle.sota_block.specs.Meeting.{met}
 use Rattle.sota_block.specs.Product.{sum_below, fold_count}
