@@ -1,7 +1,7 @@
 -- The tree of a rule attains all values that the rule keeps up, and the choices keep up the lower
 -- ones.
-use Rattle.std.proofs.Common.{ℕ, zero, suc, ◌≡◌, ◌+◌, ◌-◌, ◌*◌, ◌^◌, ◌/◌, ◌<◌, ◌≤◌, Bool, true, List, [], ◌∷◌, Option, Some, None, refl, sym, ◌∙◌, ap, arith, ⊎_elim, ◌==◌, ◌&&◌, subst}
-use Rattle.std.proofs.lemmas.Bool.{eq-eqb, ne_eqb, cases_eq, cases_lt, le-leb, lt-leb, and_from, and_parts, eqb-true}
+use Rattle.std.proofs.Common.{ℕ, zero, suc, ◌≡◌, ◌+◌, ◌-◌, ◌*◌, ◌^◌, ◌/◌, ◌<◌, ◌≤◌, List, [], ◌∷◌, Option, Some, None, refl, sym, ◌∙◌, arith, ⊎_elim, subst}
+use Rattle.std.proofs.lemmas.Bool.{eq-eqb, ne_eqb, cases_eq, cases_lt, le-leb, lt-leb}
 use Rattle.std.proofs.Math.Nat.{mul-le-mul_left, mul-le-mul_right, div-mul-le_self, zero-div}
 use Rattle.sota_hist.specs.Time.{RisesFrom}
 use Rattle.sota_network.specs.Network.{Net, IsNet, IsArc, arc_at}
@@ -11,7 +11,7 @@ use Rattle.sota_network.specs.Sound.{Sound}
 use Rattle.sota_network.specs.declared.network.Arc.{Arc}
 use Rattle.sota_units.specs.Rounding.{ONE, floor_by}
 use Rattle.sota_network.proofs.Sums.{weighed-in, weighed-out}
-use Rattle.sota_network.proofs.Best.{best-attained, first-finds}
+use Rattle.sota_network.proofs.Chosen.{chosen-some, chosen-first}
 use Rattle.sota_network.proofs.Recursion.{arc-valid, follow-is}
 use Rattle.sota_network.proofs.Outward.{power-parts, cancel, score-at_dest, score-go, scores-in, scores-out, scores-end, lo-at_dest, lo-elsewhere}
 
@@ -30,24 +30,10 @@ pub choice-found : (net : Net) (dest i t : ℕ) → (i ≡ dest → ⊥) → 0 <
     → (e : ℕ) × (a : Arc) × (choice net dest i t ≡ Some e) × (arc_at net e ≡ Some a) × (a.tail ≡ i) × (plain_sum a (lo net dest) t ≡ best_sum net (lo net dest) i t)
 unfolding choice
 choice-found net dest i t off h =
-    let f = lo net dest in
-    let found = best-attained (λ b. plain_sum b f t) i net.arcs h in
-    let k = found.0 in
-    let a = found.1 in
-    let test : Arc → Bool = λ b. (b.tail == i) && (plain_sum b f t == best_sum net f i t) in
-    let passes : test a ≡ true = and_from (a.tail == i) (plain_sum a f t == best_sum net f i t) (eq-eqb a.tail i found.3) (eq-eqb _ _ found.4) in
-    let first = first-finds test 1 k a net.arcs found.2 passes in
-    let b = first.1 in
-    let parts = and_parts (b.tail == i) (plain_sum b f t == best_sum net f i t) first.4 in
-    let number : 1 + first.0 ≡ suc first.0 = omega arith in
-    let ne : best_sum net f i t ≡ 0 → ⊥ = λ z. omega arith in (
-      suc first.0,
-      b,
-      rw (ne_eqb i dest off, ne_eqb _ 0 ne) (first.2 ∙ ap Some number),
-      first.3,
-      eqb-true _ _ parts.0,
-      eqb-true _ _ parts.1,
-    )
+    let worth : Arc → ℕ = λ b. plain_sum b (lo net dest) t in
+    let some = chosen-some net worth i h in
+    let first = chosen-first net worth i some.0 some.1 in
+    (some.0, first.arc, rw (ne_eqb i dest off) some.1, first.number, first.tail, first.greatest)
 
 -- what a rule gives, case by case
 pub follow-at_dest : (net : Net) (rule : ℕ → ℕ → Option ℕ) (dest : ℕ) → IsNet net → (i t : ℕ) → i ≡ dest → follow net rule dest i t ≡ stop

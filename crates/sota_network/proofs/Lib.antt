@@ -1,5 +1,7 @@
 pub mod Listed
 pub mod Grouped
+pub mod Numbered
+pub mod Chosen
 pub mod Placed
 pub mod Sums
 pub mod Best

@@ -1,12 +1,12 @@
 -- The grid: for each node and budget two bounds of the on-time probability in units of ten to the
 -- minus eighteenth, and an arc to take. It is a plain recursion over all nodes and budgets, with
 -- the two roundings outward.
-use Rattle.std.specs.Prelude.{ℕ, zero, suc, ◌-◌, ◌*◌, max, ◌==◌, ◌&&◌, List, [], ◌∷◌, map}
-use Rattle.std.specs.Prelude.{Option, None, if◌then◌else◌}
+use Rattle.std.specs.Prelude.{ℕ, zero, suc, ◌≡◌, ◌≤◌, ◌-◌, ◌*◌, max, ◌==◌, ◌&&◌}
+use Rattle.std.specs.Prelude.{List, [], ◌∷◌, map, Option, None, Some, if◌then◌else◌}
 use Rattle.std.specs.List.{sum_by, filter}
 use Rattle.sota_units.specs.Rounding.{ONE, floor_by, ceiling_by}
 use Rattle.sota_hist.specs.Time.{within}
-use Rattle.sota_network.specs.Network.{Net}
+use Rattle.sota_network.specs.Network.{Net, arc_at}
 use Rattle.sota_network.specs.Numbers.{first_number}
 use Rattle.sota_network.specs.declared.network.Arc.{Arc}
 
@@ -66,6 +66,16 @@ abbrev pub choice_of : List Arc → (Arc → ℕ) → ℕ → Option ℕ
 choice_of arcs worth i =
     if best_of arcs worth i == 0 then None else
     first_number (λ arc. (arc.tail == i) && (worth arc == best_of arcs worth i)) 1 arcs
+
+-- the least number of an arc that leaves node i and has the greatest worth there, which is not 0
+pub record IsFirstBest (net : Net) (worth : Arc → ℕ) (i e : ℕ) : Type 0 where
+  pub arc : Arc
+  pub number : arc_at net e ≡ Some arc
+  pub tail : arc.tail ≡ i
+  pub positive : 1 ≤ worth arc
+  pub greatest : worth arc ≡ best_of net.arcs worth i
+  pub first : (k : ℕ) (other : Arc) → arc_at net k ≡ Some other → other.tail ≡ i
+      → worth other ≡ worth arc → e ≤ k
 
 -- the arc to take from node i at budget t, by the lower values: none at the destination
 unfoldable pub choice : Net → ℕ → ℕ → ℕ → Option ℕ

@@ -1,15 +1,15 @@
 // What is true of the definitions themselves. The functions do nothing: their contracts are the
 // theorems.
-ghost use Rattle.std.specs.Prelude.{ℕ, ◌≡◌, ◌≢◌, ◌+◌, ◌-◌, ◌*◌, ◌^◌, ◌≤◌, ◌⊎◌, List, length};
+ghost use Rattle.std.specs.Prelude.{ℕ, ◌≡◌, ◌≢◌, ◌+◌, ◌-◌, ◌*◌, ◌^◌, ◌≤◌, ◌⊎◌, ◌↔◌, List, length};
 ghost use Rattle.std.specs.Prelude.{slice_index_or, Bool, true, false, Option, Some, None};
-ghost use Rattle.std.specs.List.{All};
+ghost use Rattle.std.specs.List.{All, Contains};
 ghost use Rattle.sota_units.specs.Rounding.{ONE, floor_by, ceiling_by};
 ghost use Rattle.sota_hist.specs.Time.{IsTime, total};
 ghost use Rattle.sota_network.specs.declared.network.Arc.{Arc};
 ghost use Rattle.sota_network.specs.Network.{Net, IsNet, IsArc, arc_at, replaced};
-ghost use Rattle.sota_network.specs.Numbers.{listed};
+ghost use Rattle.sota_network.specs.Numbers.{numbers, listed};
 ghost use Rattle.sota_network.specs.Grid.{lo, hi, choice, value_from};
-ghost use Rattle.sota_network.specs.Grid.{best_sum, choice_of, plain_sum};
+ghost use Rattle.sota_network.specs.Grid.{best_of, best_sum, choice_of, plain_sum, IsFirstBest};
 ghost use Rattle.sota_network.specs.Trees.{Encloses, Fits, follow, follow_step, score};
 ghost use Rattle.sota_network.specs.Sound.{Sound};
 ghost use Rattle.sota_network.specs.Walks.{Walk, IsLeastTime};
@@ -30,6 +30,29 @@ pub fn edits_keep_networks()
 pub fn arcs_by_number()
     ensures { (net : Net) (number : ℕ) (arc : Arc) → IsNet net → arc_at net number ≡ Some arc
         → IsArc net arc }
+{}
+
+/// The numbers of the arcs that pass a test: each is that of such an arc, each such arc has one of
+/// them, and they are no more than all arcs.
+pub fn numbers_of_arcs()
+    ensures only { (net : Net) (test : Arc → Bool)
+        → All (λ e. (arc : Arc) × (arc_at net e ≡ Some arc) × (test arc ≡ true))
+        (numbers test 1 net.arcs) }
+    ensures all { (net : Net) (test : Arc → Bool) (e : ℕ) (arc : Arc) → arc_at net e ≡ Some arc
+        → test arc ≡ true → Contains (numbers test 1 net.arcs) e }
+    ensures few { (net : Net) (test : Arc → Bool)
+        → length (numbers test 1 net.arcs) ≤ length net.arcs }
+{}
+
+/// What is chosen among the arcs that leave a node. None of them is worth more than the greatest
+/// worth; where that is 0, and only there, none is chosen, and else the first that has it.
+pub fn choices_by_worth()
+    ensures greatest { (net : Net) (worth : Arc → ℕ) (e : ℕ) (arc : Arc) → arc_at net e ≡ Some arc
+        → worth arc ≤ best_of net.arcs worth arc.tail }
+    ensures none { (net : Net) (worth : Arc → ℕ) (i : ℕ)
+        → (choice_of net.arcs worth i ≡ None) ↔ (best_of net.arcs worth i ≡ 0) }
+    ensures found { (net : Net) (worth : Arc → ℕ) (i e : ℕ)
+        → choice_of net.arcs worth i ≡ Some e → IsFirstBest net worth i e }
 {}
 
 /// A list of the values of a function, by number.

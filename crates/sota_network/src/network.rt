@@ -1,15 +1,16 @@
 // Networks and their views.
-ghost use Rattle.std.specs.Prelude.{◌≡◌, ◌≤◌, ◌==◌, ◌↔◌, length, None, Some};
-ghost use Rattle.std.specs.Prelude.{IfErr, IfOk, IsSome, OnErr, OnOk};
+ghost use Rattle.std.specs.Prelude.{◌≡◌, ◌≤◌, ◌==◌, ◌↔◌, [], ◌∷◌, length, None, Some};
+ghost use Rattle.std.specs.Prelude.{IfErr, IfOk, IfSome, IsSome, OnErr, OnOk};
+ghost use Rattle.std.specs.List.{All};
 ghost use Rattle.std.specs.Option.{option_copied, option_map};
 ghost use Rattle.sota_units.specs.Limits.{NODE_LIMIT, ARC_LIMIT};
 ghost use Rattle.sota_hist.specs.Time.{total};
-ghost use Rattle.sota_network.specs.Network.{Net, IsNet, IsNode, arc_at, replaced};
+ghost use Rattle.sota_network.specs.Network.{Net, IsNet, IsArc, IsNode, arc_at, replaced};
 ghost use Rattle.sota_network.specs.Numbers.{numbers};
 
 use crate::adjacency::{Adjacency, End};
 use sota_hist::Histogram;
-use sota_units::{ArcId, NoMemory, NodeId, Scale};
+use sota_units::{ArcId, NoMemory, NodeId, Scale, Tick};
 use std::alloc::Global;
 use std::marker::Model;
 
@@ -21,6 +22,24 @@ pub struct Arc {
     pub tail: NodeId,
     pub head: NodeId,
     pub time: Histogram,
+}
+
+impl Arc {
+    /// A road that takes the same time always: all mass of this scale stands at one tick.
+    pub fn certain(
+        alloc: Global,
+        tail: NodeId,
+        head: NodeId,
+        scale: Scale,
+        tick: Tick,
+    ) -> Result<Arc, NoMemory>
+        requires { 1 ≤ tick }
+        ensures { IfOk result (λ arc. arc
+            ≡ record { tail = tail; head = head; time = (tick, scale) ∷ [] }) }
+    {
+        let time = Histogram::certain(alloc, scale, tick)?;
+        Ok(Arc { tail, head, time })
+    }
 }
 
 /// No arc has the number. The histogram that was handed in is handed back.
@@ -109,11 +128,21 @@ impl Network {
     pub fn arc(&self, arc: ArcId) -> Option<&Arc>
         ensures some { IsSome result ↔ ((1 ≤ arc) × (arc ≤ length self.now.arcs)) }
         ensures value { option_copied result ≡ arc_at self.now arc }
+        ensures found { IfSome result (λ arc. IsArc self.now arc.now) }
         ensures valid { IsNet self.now }
     {
         let arcs = self.arcs();
         let index = arc.get().checked_sub(1)?;
         arcs.get(index as usize)
+    }
+
+    /// The arc of a number that the network has.
+    pub fn numbered(&self, arc: ArcId) -> &Arc
+        requires { (1 ≤ arc) × (arc ≤ length self.now.arcs) }
+        ensures value { arc_at self.now arc ≡ Some result.now }
+        ensures valid { IsArc self.now result.now }
+    {
+        &self.arcs()[arc.get() as usize - 1]
     }
 
     /// All arcs: number `e` stands at index `e - 1`.
@@ -128,7 +157,8 @@ impl Network {
     /// The numbers of the arcs that leave a node, rising.
     pub fn leaving(&self, node: NodeId) -> &[ArcId]
         requires { IsNode self.now node }
-        ensures { result.now ≡ numbers (λ arc. arc.tail == node) 1 self.now.arcs }
+        ensures value { result.now ≡ numbers (λ arc. arc.tail == node) 1 self.now.arcs }
+        ensures within { All (λ e. (1 ≤ e) × (e ≤ length self.now.arcs)) result.now }
     {
         self.leaving.of_node(node)
     }
@@ -136,7 +166,8 @@ impl Network {
     /// The numbers of the arcs that enter a node, rising.
     pub fn entering(&self, node: NodeId) -> &[ArcId]
         requires { IsNode self.now node }
-        ensures { result.now ≡ numbers (λ arc. arc.head == node) 1 self.now.arcs }
+        ensures value { result.now ≡ numbers (λ arc. arc.head == node) 1 self.now.arcs }
+        ensures within { All (λ e. (1 ≤ e) × (e ≤ length self.now.arcs)) result.now }
     {
         self.entering.of_node(node)
     }

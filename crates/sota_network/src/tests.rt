@@ -7,31 +7,16 @@ use sota_units::{ArcId, Grain, Mass, NoMemory, NodeId, Scale, Tick};
 use std::alloc::Global;
 use std::test::Fail;
 
-/// An arc that takes the same time always.
-fn certain_arc(alloc: Global, tail: u32, head: u32, tick: u32) -> Result<Arc, NoMemory>
-    requires { 1 ≤ tick }
-    ensures tail { IfOk result (λ arc. arc.tail ≡ tail) }
-    ensures head { IfOk result (λ arc. arc.head ≡ head) }
-    ensures time { IfOk result (λ arc. arc.time ≡ (tick, 1) ∷ []) }
-{
-    let time = Histogram::certain(alloc, Scale::ONE, Tick(tick))?;
-    Ok(Arc {
-        tail: NodeId(tail),
-        head: NodeId(head),
-        time,
-    })
-}
-
 /// From 1 to 3 by way of 2 in two ticks, or straight by one of two arcs in three.
 fn certain_triangle(alloc: Global) -> Result<Network, NoMemory>
     ensures nodes { IfOk result (λ network. network.nodes ≡ 3) }
     ensures scale { IfOk result (λ network. network.scale ≡ 1) }
 {
     let mut arcs = Vec::new(alloc);
-    arcs.push(certain_arc(alloc, 1, 2, 1)?)?;
-    arcs.push(certain_arc(alloc, 2, 3, 1)?)?;
-    arcs.push(certain_arc(alloc, 1, 3, 3)?)?;
-    arcs.push(certain_arc(alloc, 1, 3, 3)?)?;
+    arcs.push(Arc::certain(alloc, NodeId(1), NodeId(2), Scale::ONE, Tick(1))?)?;
+    arcs.push(Arc::certain(alloc, NodeId(2), NodeId(3), Scale::ONE, Tick(1))?)?;
+    arcs.push(Arc::certain(alloc, NodeId(1), NodeId(3), Scale::ONE, Tick(3))?)?;
+    arcs.push(Arc::certain(alloc, NodeId(1), NodeId(3), Scale::ONE, Tick(3))?)?;
     Network::build(alloc, 3, Scale::ONE, arcs)
 }
 
@@ -47,6 +32,7 @@ fn has_views(network: &Network) -> bool
             .arc(ArcId(3))
             .is_some_and(|arc| arc.head == NodeId(3))
         && network.arc(ArcId(5)).is_none()
+        && network.numbered(ArcId(2)).tail == NodeId(2)
         && network.leaving(NodeId(1)) == [ArcId(1), ArcId(3), ArcId(4)].as_slice()
         && network.entering(NodeId(3)) == [ArcId(2), ArcId(3), ArcId(4)].as_slice()
 }

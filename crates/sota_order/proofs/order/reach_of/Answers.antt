@@ -10,18 +10,18 @@ use Rattle.sota_order.proofs.order.reach_of.Goals as goal
 
 pub overflow_sub-arc : goal.overflow_sub-arc
 overflow_sub-arc c =
-    let out = out-read c.args.network.now c.args.node c.leaving-number-items.result.now c.loop-number.number-index c.number-item.result c.leaving-number-items.ensures c.loop-number-test.true c.number-item.is in
+    let out = out-read c.args.network.now c.args.node c.leaving-number-items.result.now c.loop-number.number-index c.number-item.result c.leaving-number-items.ensures.value c.loop-number-test.true c.number-item.is in
     omega (arith, out.low, c.get.ensures)
 
 pub bounds-arcs-get : goal.bounds-arcs-get
 bounds-arcs-get c =
-    let out = out-read c.args.network.now c.args.node c.leaving-number-items.result.now c.loop-number.number-index c.number-item.result c.leaving-number-items.ensures c.loop-number-test.true c.number-item.is in
+    let out = out-read c.args.network.now c.args.node c.leaving-number-items.result.now c.loop-number.number-index c.number-item.result c.leaving-number-items.ensures.value c.loop-number-test.true c.number-item.is in
     slice_get_within c.arcs-arcs.result.now (c.get.result - 1) out.arc
     (arc-place c.args.network.now c.args.node c.arcs-arcs.result.now c.get.result c.number-item.result out c.arcs-arcs.ensures.value c.get.ensures)
 
 pub bound_of-requires-clause-low : goal.bound_of-requires-clause-low
 bound_of-requires-clause-low c =
-    let out = out-read c.args.network.now c.args.node c.leaving-number-items.result.now c.loop-number.number-index c.number-item.result c.leaving-number-items.ensures c.loop-number-test.true c.number-item.is in
+    let out = out-read c.args.network.now c.args.node c.leaving-number-items.result.now c.loop-number.number-index c.number-item.result c.leaving-number-items.ensures.value c.loop-number-test.true c.number-item.is in
     let read : c.index-arcs-get.result ≡ out.arc =
     c.index-arcs-get.is ∙ get_or_from_slice_get c.arcs-arcs.result.now (c.get.result - 1) out.arc c.index-arcs-get.result
     (arc-place c.args.network.now c.args.node c.arcs-arcs.result.now c.get.result c.number-item.result out c.arcs-arcs.ensures.value c.get.ensures) in
@@ -31,7 +31,7 @@ bound_of-requires-clause-low c =
 
 pub bound_of-requires-clause-nodes : goal.bound_of-requires-clause-nodes
 bound_of-requires-clause-nodes c =
-    let out = out-read c.args.network.now c.args.node c.leaving-number-items.result.now c.loop-number.number-index c.number-item.result c.leaving-number-items.ensures c.loop-number-test.true c.number-item.is in
+    let out = out-read c.args.network.now c.args.node c.leaving-number-items.result.now c.loop-number.number-index c.number-item.result c.leaving-number-items.ensures.value c.loop-number-test.true c.number-item.is in
     let read : c.index-arcs-get.result ≡ out.arc =
     c.index-arcs-get.is ∙ get_or_from_slice_get c.arcs-arcs.result.now (c.get.result - 1) out.arc c.index-arcs-get.result
     (arc-place c.args.network.now c.args.node c.arcs-arcs.result.now c.get.result c.number-item.result out c.arcs-arcs.ensures.value c.get.ensures) in
@@ -41,7 +41,7 @@ bound_of-requires-clause-nodes c =
 
 pub loop-number-preserved : goal.loop-number-preserved
 loop-number-preserved c =
-    let out = out-read c.args.network.now c.args.node c.leaving-number-items.result.now c.loop-number.number-index c.number-item.result c.leaving-number-items.ensures c.loop-number-test.true c.number-item.is in
+    let out = out-read c.args.network.now c.args.node c.leaving-number-items.result.now c.loop-number.number-index c.number-item.result c.leaving-number-items.ensures.value c.loop-number-test.true c.number-item.is in
     let read : c.index-arcs-get.result ≡ out.arc =
     c.index-arcs-get.is ∙ get_or_from_slice_get c.arcs-arcs.result.now (c.get.result - 1) out.arc c.index-arcs-get.result
     (arc-place c.args.network.now c.args.node c.arcs-arcs.result.now c.get.result c.number-item.result out c.arcs-arcs.ensures.value c.get.ensures) in
@@ -66,4 +66,4 @@ loop-number-preserved c =
 pub returns-clause-reach : goal.returns-clause-reach
 returns-clause-reach c = λ w at-dest at-fronts at-bases at-need.
     reached-all c.args.network.now c.args.dest c.args.fronts.now c.args.bases.now c.args.node c.args.need c.leaving-number-items.result.now c.loop-number.number-index c.loop-number.to c.loop-number.invariant
-    c.loop-number-test.false c.leaving-number-items.ensures w at-dest at-fronts at-bases at-need
+    c.loop-number-test.false c.leaving-number-items.ensures.value w at-dest at-fronts at-bases at-need
