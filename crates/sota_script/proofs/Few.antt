@@ -4,14 +4,15 @@ use Rattle.std.specs.List.{slice_split, onto_first}
 use Rattle.std.specs.Str.{bytes_eq}
 use Rattle.std.proofs.lemmas.List.{length-map}
 use Rattle.sota_text.specs.Text.{is_blank, is_empty, fields_of}
+use Rattle.sota_text.specs.Words.{three, four}
 use Rattle.sota_units.specs.Memory.{◌>>=◌, or_fault}
-use Rattle.sota_script.specs.Lines.{all_there, pair_of, pairs_of, parse_number, parse_edit, parse_close, parse_ask, parse_ask_line, parse_command}
+use Rattle.sota_script.specs.Lines.{all_there, pair_of, pairs_of, parse_number, parse_ask, parse_name, parse_edit, parse_close, parse_ask_line, parse_policy, parse_command}
 use Rattle.sota_script.specs.Few.{HasFewPairs}
 use Rattle.sota_script.specs.declared.command.Ask3.{Ask3}
 use Rattle.sota_script.specs.declared.command.Command.{Command}
 use Rattle.sota_script.specs.declared.command.Command.TheVariants as commands
 use Rattle.sota_script.specs.declared.fault.LineFault.{LineFault}
-use Rattle.sota_script.specs.declared.fault.LineFault.TheVariants.{Number, Word}
+use Rattle.sota_script.specs.declared.fault.LineFault.TheVariants.{Count, Number, Word}
 
 -- ---- a field has a byte
 
@@ -76,15 +77,37 @@ ask_by : (ask : Result Ask3 LineFault) (command : Command) → (ask >>= λ ask. 
 ask_by (Err fault) command e = absurd (cc)
 ask_by (Ok ask) command e = let is : commands.Ask ask ≡ command = cc in subst (λ (command : Command). HasFewPairs command) is tt
 
+ask_few : (words : List (List ℕ)) (command : Command) → parse_ask_line words ≡ Ok command → HasFewPairs command
+ask_few words command e =
+    elim (three words) as (λ found. (or_fault Count found >>= λ word. parse_ask word.0 word.1 word.2 >>= λ ask. Ok (commands.Ask ask)) ≡ Ok command → HasFewPairs command) [
+      | None ↦ λ e. absurd (cc)
+      | Some word ↦ λ e. ask_by (parse_ask word.0 word.1 word.2) command e
+    ] e
+
+policy_by : (ask : Result Ask3 LineFault) (name : Result (List ℕ) LineFault) (command : Command) → (ask >>= λ ask. name >>= λ name. Ok (commands.Policy ask name)) ≡ Ok command → HasFewPairs command
+policy_by (Err fault) name command e = absurd (cc)
+policy_by (Ok ask) (Err fault) command e = absurd (cc)
+policy_by (Ok ask) (Ok name) command e = let is : commands.Policy ask name ≡ command = cc in subst (λ (command : Command). HasFewPairs command) is tt
+
+policy_few : (words : List (List ℕ)) (command : Command) → parse_policy words ≡ Ok command → HasFewPairs command
+policy_few words command e =
+    elim (four words) as (λ found. (or_fault Count found >>= λ word. parse_ask word.0 word.1 word.2 >>= λ ask. parse_name word.3 >>= λ name. Ok (commands.Policy ask name)) ≡ Ok command → HasFewPairs command) [
+      | None ↦ λ e. absurd (cc)
+      | Some word ↦ λ e. policy_by (parse_ask word.0 word.1 word.2) (parse_name word.3) command e
+    ] e
+
 pub command_few : (first : List ℕ) (words : List (List ℕ)) (command : Command) → length words < 2 ^ 32 → parse_command first words ≡ Ok command → HasFewPairs command
 command_few first words command few e =
-    elim (bytes_eq first (codes "edit")) as (λ b. cond b (parse_edit words) (cond (bytes_eq first (codes "close")) (parse_close words) (cond (bytes_eq first (codes "ask")) (parse_ask_line words) (Err Word))) ≡ Ok command → HasFewPairs command) [
+    elim (bytes_eq first (codes "edit")) as (λ b. cond b (parse_edit words) (cond (bytes_eq first (codes "close")) (parse_close words) (cond (bytes_eq first (codes "ask")) (parse_ask_line words) (cond (bytes_eq first (codes "policy")) (parse_policy words) (Err Word)))) ≡ Ok command → HasFewPairs command) [
       | true ↦ λ e. edit_few words command few e
-      | false ↦ λ e. elim (bytes_eq first (codes "close")) as (λ b. cond b (parse_close words) (cond (bytes_eq first (codes "ask")) (parse_ask_line words) (Err Word)) ≡ Ok command → HasFewPairs command) [
+      | false ↦ λ e. elim (bytes_eq first (codes "close")) as (λ b. cond b (parse_close words) (cond (bytes_eq first (codes "ask")) (parse_ask_line words) (cond (bytes_eq first (codes "policy")) (parse_policy words) (Err Word))) ≡ Ok command → HasFewPairs command) [
         | true ↦ λ e. close_few words command e
-        | false ↦ λ e. elim (bytes_eq first (codes "ask")) as (λ b. cond b (parse_ask_line words) (Err Word) ≡ Ok command → HasFewPairs command) [
-          | true ↦ λ e. ask_by (parse_ask words) command e
-          | false ↦ λ e. absurd (cc)
+        | false ↦ λ e. elim (bytes_eq first (codes "ask")) as (λ b. cond b (parse_ask_line words) (cond (bytes_eq first (codes "policy")) (parse_policy words) (Err Word)) ≡ Ok command → HasFewPairs command) [
+          | true ↦ λ e. ask_few words command e
+          | false ↦ λ e. elim (bytes_eq first (codes "policy")) as (λ b. cond b (parse_policy words) (Err Word) ≡ Ok command → HasFewPairs command) [
+            | true ↦ λ e. policy_few words command e
+            | false ↦ λ e. absurd (cc)
+          ] e
         ] e
       ] e
     ] e

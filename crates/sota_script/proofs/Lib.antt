@@ -1,2 +1,3 @@
 mod Colons
 mod Few
+mod Names

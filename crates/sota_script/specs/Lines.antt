@@ -2,15 +2,15 @@
 use Rattle.std.specs.Prelude.{ℕ, ◌≡◌, Bool, ◌==◌, List, [], ◌∷◌, ◌++◌, slice_index, map, codes}
 use Rattle.std.specs.Prelude.{Option, Some, None, option_map, Result, Ok, Err, if◌then◌else◌}
 use Rattle.std.specs.List.{before_first, after_first}
-use Rattle.std.specs.Str.{bytes_eq}
+use Rattle.std.specs.Str.{bytes_eq, is_utf8}
 use Rattle.sota_units.specs.Memory.{◌>>=◌, or_fault}
 use Rattle.sota_text.specs.Text.{fields_of, number_of}
-use Rattle.sota_text.specs.Words.{three}
+use Rattle.sota_text.specs.Words.{three, four}
 use Rattle.sota_script.specs.declared.command.Ask3.{Ask3}
 use Rattle.sota_script.specs.declared.command.Command.{Command}
 use Rattle.sota_script.specs.declared.command.Command.TheVariants as commands
 use Rattle.sota_script.specs.declared.fault.LineFault.{LineFault}
-use Rattle.sota_script.specs.declared.fault.LineFault.TheVariants.{Word, Count, Number}
+use Rattle.sota_script.specs.declared.fault.LineFault.TheVariants.{Word, Count, Number, Name}
 
 -- all of them, or none where one is missing
 abbrev pub all_there : {A : Type 0} → List (Option A) → Option (List A)
@@ -47,22 +47,34 @@ pub record IsPair (field : List ℕ) (pair : ℕ × ℕ) : Type 0 where
 abbrev pub pairs_of : List (List ℕ) → Option (List (ℕ × ℕ))
 pairs_of fields = all_there (map pair_of fields)
 
--- ---- commands, by the fields after their words
-
 -- 'O D T'
-abbrev pub parse_ask : List (List ℕ) → Result Ask3 LineFault
-parse_ask words = do
-  word ← or_fault Count (three words)
-  origin ← parse_number word.0
-  dest ← parse_number word.1
-  budget ← parse_number word.2
+abbrev pub parse_ask : List ℕ → List ℕ → List ℕ → Result Ask3 LineFault
+parse_ask origin dest budget = do
+  origin ← parse_number origin
+  dest ← parse_number dest
+  budget ← parse_number budget
   Ok (record { origin = origin; dest = dest; budget = budget })
 
--- after 'ask'
+-- a name is text
+abbrev pub parse_name : List ℕ → Result (List ℕ) LineFault
+parse_name field = if is_utf8 field then Ok field else Err Name
+
+-- ---- commands, by the fields after their words
+
+-- 'O D T' after 'ask'
 abbrev pub parse_ask_line : List (List ℕ) → Result Command LineFault
 parse_ask_line words = do
-  ask ← parse_ask words
+  word ← or_fault Count (three words)
+  ask ← parse_ask word.0 word.1 word.2
   Ok (commands.Ask ask)
+
+-- 'O D T NAME' after 'policy'
+abbrev pub parse_policy : List (List ℕ) → Result Command LineFault
+parse_policy words = do
+  word ← or_fault Count (four words)
+  ask ← parse_ask word.0 word.1 word.2
+  name ← parse_name word.3
+  Ok (commands.Policy ask name)
 
 -- 'ARC T:M ..' after 'edit', with one pair or more
 abbrev pub parse_edit : List (List ℕ) → Result Command LineFault
@@ -85,7 +97,8 @@ parse_command first words =
     if bytes_eq first (codes "edit") then parse_edit words
     else (if bytes_eq first (codes "close") then parse_close words
     else (if bytes_eq first (codes "ask") then parse_ask_line words
-    else Err Word))
+    else (if bytes_eq first (codes "policy") then parse_policy words
+    else Err Word)))
 
 -- ---- lines
 

@@ -1,4 +1,5 @@
 // The commands that lines of a script give.
+use crate::FileName;
 use sota_units::{ArcId, Items, Mass, Tick};
 
 /// An ask as its numbers stand: an origin, a destination and a budget in ticks.
@@ -23,4 +24,9 @@ pub enum Command {
     },
     /// An ask is to be answered.
     Ask(Ask3),
+    /// The policy of an ask is to be stored under a name.
+    Policy {
+        ask: Ask3,
+        name: FileName,
+    },
 }

@@ -13,7 +13,7 @@ pub enum LineFault {
     Count,
     /// A field that is to be a number, or a pair of two, is not.
     Number,
-    /// A name is not UTF-8. It never comes yet, since no command has a name.
+    /// A name is not UTF-8.
     Name,
     /// Memory was wanted, and there was none. It has no cause in the line.
     NoMemory,

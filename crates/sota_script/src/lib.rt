@@ -5,9 +5,11 @@ mod command;
 mod fault;
 pub mod laws;
 mod line;
+mod name;
 #[cfg(test)]
 mod tests;
 
 pub use command::{Ask3, Command};
 pub use fault::LineFault;
 pub use line::read_line;
+pub use name::FileName;

@@ -5,21 +5,22 @@ ghost use Rattle.sota_units.specs.Memory.{Answers, AnswersBy, or_fault};
 ghost use Rattle.sota_text.specs.Spans.{bytes_of, AreWithin, IsWithin};
 ghost use Rattle.sota_script.specs.Words.{is_shortage};
 ghost use Rattle.sota_script.specs.Lines.{parse_line, parse_command, begins_comment};
-ghost use Rattle.sota_script.specs.Lines.{parse_edit, parse_close, parse_ask, parse_number};
+ghost use Rattle.sota_script.specs.Lines.{parse_edit, parse_close, parse_ask_line, parse_policy};
+ghost use Rattle.sota_script.specs.Lines.{parse_ask, parse_number, parse_name};
 ghost use Rattle.sota_script.specs.Lines.{pairs_of, pair_of, is_colon};
 ghost use Rattle.sota_script.specs.Few.{HasFewPairs};
 ghost use Rattle.sota_script.specs.declared.fault.LineFault.TheVariants.{Number};
 
-use crate::{Ask3, Command, LineFault};
-use sota_text::{Fields, Span, read_u32, three_fields};
+use crate::{Ask3, Command, FileName, LineFault};
+use sota_text::{Fields, Span, four_fields, read_u32, three_fields};
 use sota_units::{ArcId, Items, Mass, NoMemory, Tick};
 use std::alloc::Global;
 
 /// The command of a line, which stands without what ends it. None exactly where the line is blank
 /// or a comment, whose first field begins with `#`.
 ///
-/// Commands are `edit ARC T:M ..`, with one pair or more, `close ARC` and `ask O D T`. Fields are
-/// parted by spaces and tabs.
+/// Commands are `edit ARC T:M ..`, with one pair or more, `close ARC`, `ask O D T` and
+/// `policy O D T NAME`. Fields are parted by spaces and tabs.
 pub fn read_line(alloc: Global, line: &[u8]) -> Result<Option<Command>, LineFault>
     requires { length line.now < 2 ^ 32 }
     ensures meaning { Answers is_shortage result (parse_line line.now) }
@@ -59,7 +60,9 @@ fn read_command(
     } else if first == b"close".as_slice() {
         read_close(line, fields)
     } else if first == b"ask".as_slice() {
-        Ok(Command::Ask(read_ask(line, fields)?))
+        read_ask_line(line, fields)
+    } else if first == b"policy".as_slice() {
+        read_policy(alloc, line, fields)
     } else {
         Err(LineFault::Word)
     }
@@ -134,17 +137,46 @@ fn read_close(line: &[u8], mut fields: Fields<'_>) -> Result<Command, LineFault>
     Ok(Command::Close { arc: ArcId(arc) })
 }
 
-/// The ask of the fields after an `ask`.
-fn read_ask(line: &[u8], fields: Fields<'_>) -> Result<Ask3, LineFault>
+/// The command of the fields after an `ask`.
+fn read_ask_line(line: &[u8], fields: Fields<'_>) -> Result<Command, LineFault>
     requires { AreWithin line.now fields }
-    ensures { result ≡ parse_ask (map (bytes_of line.now) fields.entry) }
+    ensures { result ≡ parse_ask_line (map (bytes_of line.now) fields.entry) }
 {
     let (origin, dest, budget) = three_fields(line, fields).ok_or(LineFault::Count)?;
+    Ok(Command::Ask(read_ask(origin, dest, budget)?))
+}
+
+/// The command of the fields after a `policy`.
+fn read_policy(alloc: Global, line: &[u8], fields: Fields<'_>) -> Result<Command, LineFault>
+    requires { AreWithin line.now fields }
+    ensures { Answers is_shortage result (parse_policy (map (bytes_of line.now) fields.entry)) }
+{
+    let (origin, dest, budget, name) = four_fields(line, fields).ok_or(LineFault::Count)?;
+    Ok(Command::Policy {
+        ask: read_ask(origin, dest, budget)?,
+        name: read_name(alloc, name)?,
+    })
+}
+
+/// The ask of three fields.
+fn read_ask(origin: &[u8], dest: &[u8], budget: &[u8]) -> Result<Ask3, LineFault>
+    ensures { result ≡ parse_ask origin.now dest.now budget.now }
+{
     Ok(Ask3 {
         origin: read_number(origin)?,
         dest: read_number(dest)?,
         budget: read_number(budget)?,
     })
+}
+
+/// The name that a field is.
+#[tactic(auto, using(crate::proofs::Names::name_read, crate::proofs::Names::no_name))]
+fn read_name(alloc: Global, field: &[u8]) -> Result<FileName, LineFault>
+    ensures { Answers is_shortage result (parse_name field.now) }
+{
+    let text = str::from_utf8(field).map_err(|_| LineFault::Name)?;
+    let name = String::from_str(alloc, text).map_err(NoMemory::from)?;
+    Ok(FileName::new(name))
 }
 
 /// The number of a field.

@@ -1,6 +1,7 @@
 // Examples from outside the definitions.
 use crate::{Ask3, Command, LineFault, read_line};
 use sota_units::{ArcId, Items, Mass, Tick};
+use std::alloc::Global;
 use std::test::Fail;
 
 #[test]
@@ -8,7 +9,7 @@ fn refused_lines(rt: HostRuntime) -> Result<(), Fail> {
     let faults = [
         ("go", LineFault::Word),
         ("edits 1 1:1", LineFault::Word),
-        ("policy 1 2 3 p", LineFault::Word),
+        ("policies 1 2 3 p", LineFault::Word),
         ("ASK 1 2 3", LineFault::Word),
         ("edit", LineFault::Count),
         ("edit x", LineFault::Count),
@@ -16,6 +17,8 @@ fn refused_lines(rt: HostRuntime) -> Result<(), Fail> {
         ("close x 1", LineFault::Count),
         ("ask 1 3", LineFault::Count),
         ("ask 1 x 3 4", LineFault::Count),
+        ("policy 1 2 3", LineFault::Count),
+        ("policy 1 x 3 p q", LineFault::Count),
         ("close 1:1", LineFault::Number),
         ("edit x 1:1", LineFault::Number),
         ("edit 2 1-4", LineFault::Number),
@@ -27,23 +30,43 @@ fn refused_lines(rt: HostRuntime) -> Result<(), Fail> {
         ("ask 1 2 4294967296", LineFault::Number),
         ("ask 1 2 3\r", LineFault::Number),
         ("ask 1 3 x", LineFault::Number),
+        ("policy 1 3 x p", LineFault::Number),
     ];
     for (line, want) in faults {
-        let bytes = line.as_bytes();
-        assert!(rt; bytes.len() < 100);
-        match read_line(rt.alloc(), bytes) {
-            Ok(_) => assert!(rt; false, "{line}"),
-            Err(fault) => assert_eq!(rt; fault, want, "{line}"),
-        }
+        assert_eq!(rt; fault_of(rt.alloc(), line.as_bytes()), Some(want), "{line}");
+    }
+    let names = [
+        (b"policy 1 3 3 p\xff".as_slice(), LineFault::Name),
+        (b"policy 1 3 x p\xff".as_slice(), LineFault::Number),
+        (b"policy 1 3 3 p \xff".as_slice(), LineFault::Count),
+    ];
+    for (line, want) in names {
+        assert_eq!(rt; fault_of(rt.alloc(), line), Some(want));
     }
     Ok(())
+}
+
+/// The fault of a line, none where it has none or is long.
+fn fault_of(alloc: Global, line: &[u8]) -> Option<LineFault> {
+    if line.len() > 100 {
+        return None;
+    }
+    read_line(alloc, line).err()
 }
 
 /// Whether a command is this ask.
 fn is_ask(command: &Command, want: &Ask3) -> bool {
     match command {
         Command::Ask(ask) => ask == want,
-        Command::Edit { .. } | Command::Close { .. } => false,
+        Command::Edit { .. } | Command::Close { .. } | Command::Policy { .. } => false,
+    }
+}
+
+/// Whether a command stores the policy of this ask under this name.
+fn is_policy(command: &Command, want: &Ask3, want_name: &str) -> bool {
+    match command {
+        Command::Policy { ask, name } => ask == want && name.as_str() == want_name,
+        Command::Edit { .. } | Command::Close { .. } | Command::Ask(_) => false,
     }
 }
 
@@ -54,7 +77,7 @@ fn is_edit(command: Command, want: ArcId, want_pairs: &[(Tick, Mass)]) -> bool {
             let pairs = Items::new(pairs.into_vec());
             arc == want && pairs.as_slice() == want_pairs
         }
-        Command::Close { .. } | Command::Ask(_) => false,
+        Command::Close { .. } | Command::Ask(_) | Command::Policy { .. } => false,
     }
 }
 
@@ -72,6 +95,10 @@ fn commands(rt: HostRuntime) -> Result<(), Fail> {
     };
     let command = read_line(rt.alloc(), b"\task 01 2  65536 ")?.ok_or("an ask")?;
     assert!(rt; is_ask(&command, &ask));
+    let line = "policy\t01 2 65536 d\u{e9}p\u{f4}t/1.pol".as_bytes();
+    assert!(rt; line.len() < 100);
+    let command = read_line(rt.alloc(), line)?.ok_or("a policy")?;
+    assert!(rt; is_policy(&command, &ask, "d\u{e9}p\u{f4}t/1.pol"));
     let pairs = [(Tick(5), Mass(1)), (Tick(0), Mass(4)), (Tick(5), Mass(0))];
     let command = read_line(rt.alloc(), b"edit 3 5:1\t0:04 5:0")?.ok_or("an edit")?;
     assert!(rt; is_edit(command, ArcId(3), &pairs));

@@ -2,6 +2,7 @@
 //! piece.
 #![tactic(auto)]
 
+mod few_fields;
 mod fields;
 mod lines;
 mod number;
@@ -9,11 +10,10 @@ mod span;
 #[cfg(test)]
 mod tests;
 mod text_out;
-mod three;
 
+pub use few_fields::{four_fields, three_fields};
 pub use fields::Fields;
 pub use lines::Lines;
 pub use number::read_u32;
 pub use span::{Line, Span};
 pub use text_out::TextOut;
-pub use three::three_fields;

@@ -1,0 +1,10 @@
+use Rattle.std.proofs.Common.{◌≡◌, [], ◌∷◌, Ok, refl}
+use Rattle.sota_script.proofs.Names.{name_read}
+use Rattle.sota_script.specs.Lines.{parse_name}
+use Rattle.sota_script.proofs.laws.worked_lines.Goals as goal
+
+pub returns-clause-policy : goal.returns-clause-policy
+unfolding lib.Utf8.encode
+returns-clause-policy c =
+    let name : parse_name (112 ∷ []) ≡ Ok (112 ∷ []) = name_read (112 ∷ []) (112 ∷ [], (refl, refl)) in
+    rw name refl
