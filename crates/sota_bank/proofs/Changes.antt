@@ -1,6 +1,6 @@
 -- What each method of the bank makes of the rows.
-use Rattle.std.proofs.Common.{◌≡◌, ℕ, ◌+◌, ◌-◌, ◌<◌, ◌≤◌, min, inl, inr, List, [], ◌∷◌, ◌++◌, length, map, take, drop, set, replicate, sym, ap, ◌∙◌, subst, arith, length-take, length-drop, take-take, get_or, refl, Option, Some, None}
-use Rattle.std.proofs.lemmas.List.{length-map, length-replicate, get_or_read, set-get_or, map_push, take_more_set, drop-set-add, take-map, map-append, drop-map, drop-drop, take_min}
+use Rattle.std.proofs.Common.{◌≡◌, ℕ, ◌+◌, ◌-◌, ◌<◌, ◌≤◌, min, inl, inr, List, [], ◌∷◌, ◌++◌, length, map, take, drop, set, replicate, sym, ap, ◌∙◌, subst, arith, length-take, length-drop, take-take, take-add, get_or, refl, Option, Some, None}
+use Rattle.std.proofs.lemmas.List.{length-map, length-replicate, get_or_read, set-get_or, take-map, map-append, drop-map, drop-drop, take_min}
 use Rattle.std.specs.List.{refill, length_refill}
 use Rattle.sota_bank.specs.declared.bank.Extent.{Extent}
 use Rattle.sota_bank.specs.Places.{somes, IsRun, spliced}
@@ -47,16 +47,17 @@ module _ {X : Type 0} (es : List Extent) (cs : List (Option X)) (i : ℕ) (x : E
       changed es cs (spliced cs from len qs) i e h lt (start ∙ ap (λ y. y.start) is) (cap ∙ ap (λ y. y.cap) is) (length-replaced cs qs from len inside long)
       (λ s n out. elim out [ inl a ↦ run-before cs qs from len inside long s n (omega arith) | inr b ↦ run-after cs qs from len inside long s n (omega arith) ]) within ys written
 
-  pub pushed : (v : X) → x.len < x.cap → let e : Extent = record { start = x.start; len = x.len + 1; cap = x.cap } in
-      IsLaidOut (set es i e) (set cs (x.start + x.len) (Some v)) × (rows_in (set es i e) (set cs (x.start + x.len) (Some v)) ≡ with_list rows i (xs ++ v ∷ []))
-  pushed v room =
-      let e : Extent = record { start = x.start; len = x.len + 1; cap = x.cap } in let at = x.start + x.len in
-      let there : at < length cs = omega (arith, row.inside) in let far : x.len < length (drop x.start cs) = omega (arith, length-drop x.start cs, row.inside) in
-      let same = set-replaced cs at (Some v) there in
-      let written : take e.len (drop e.start (set cs at (Some v))) ≡ map Some (xs ++ v ∷ []) =
-      ap (take (x.len + 1)) (drop-set-add x.start cs x.len (Some v)) ∙ take_more_set (drop x.start cs) x.len (Some v) far ∙ ap (λ l. l ++ Some v ∷ []) lies ∙ sym (map_push Some xs v) in
-      subst (λ d. IsLaidOut (set es i e) d × (rows_in (set es i e) d ≡ with_list rows i (xs ++ v ∷ []))) (sym same)
-      (respliced at 1 (Some v ∷ []) e refl refl (omega arith) (omega arith) refl (omega arith) (xs ++ v ∷ []) (ap (λ d. take e.len (drop e.start d)) (sym same) ∙ written))
+  pub appended : (vs : List X) → x.len + length vs ≤ x.cap
+      → let e : Extent = record { start = x.start; len = x.len + length vs; cap = x.cap } in let ds = spliced cs (x.start + x.len) (length vs) (map Some vs) in
+      IsLaidOut (set es i e) ds × (rows_in (set es i e) ds ≡ with_list rows i (xs ++ vs))
+  appended vs room =
+      let n = length vs in let qs = map Some vs in let at = x.start + x.len in let long = length-map vs Some in
+      let e : Extent = record { start = x.start; len = x.len + n; cap = x.cap } in let ds = spliced cs at n qs in
+      let inside : at + n ≤ length cs = omega (arith, row.inside) in
+      let front : take x.len (drop x.start ds) ≡ map Some xs = run-before cs qs at n inside long x.start x.len (omega arith) ∙ lies in
+      let back : take n (drop x.len (drop x.start ds)) ≡ qs = ap (take n) (drop-drop x.len x.start ds) ∙ run-inside cs qs at n inside long in
+      let written : take e.len (drop e.start ds) ≡ map Some (xs ++ vs) = take-add x.len n (drop x.start ds) ∙ (λ j. front j ++ back j) ∙ sym (map-append Some xs vs) in
+      respliced at n qs e refl refl (omega arith) (omega arith) long (omega arith) (xs ++ vs) written
 
   pub cut : (k : ℕ) → let e : Extent = record { start = x.start; len = min x.len k; cap = x.cap } in IsLaidOut (set es i e) cs × (rows_in (set es i e) cs ≡ with_list rows i (take k xs))
   cut k =
@@ -108,11 +109,21 @@ module _ {X : Type 0} (es : List Extent) (cs : List (Option X)) (h : IsLaidOut e
   pub capacity_is : cap_at bank i ≡ x.cap
   capacity_is = subst (λ b. cap_at b i ≡ x.cap) view (cap-is es cs i x h there is_row)
 
+  pub append : (vs : List X) → length (list_at bank i) + length vs ≤ cap_at bank i
+      → let e : Extent = record { start = x.start; len = x.len + length vs; cap = x.cap } in let ds = spliced cs (x.start + x.len) (length vs) (map Some vs) in
+      IsLaidOut (set es i e) ds × (rows_in (set es i e) ds ≡ with_list bank i (list_at bank i ++ vs))
+  append vs room =
+      let e : Extent = record { start = x.start; len = x.len + length vs; cap = x.cap } in let ds = spliced cs (x.start + x.len) (length vs) (map Some vs) in
+      subst (λ b. IsLaidOut (set es i e) ds × (rows_in (set es i e) ds ≡ with_list b i (list_at b i ++ vs))) view
+      (appended es cs i x h there is_row vs (omega (arith, room, length_is, capacity_is)))
+
   pub push : (v : X) → length (list_at bank i) < cap_at bank i → let e : Extent = record { start = x.start; len = x.len + 1; cap = x.cap } in
       IsLaidOut (set es i e) (set cs (x.start + x.len) (Some v)) × (rows_in (set es i e) (set cs (x.start + x.len) (Some v)) ≡ with_list bank i (list_at bank i ++ v ∷ []))
   push v room =
-      let e : Extent = record { start = x.start; len = x.len + 1; cap = x.cap } in let ds = set cs (x.start + x.len) (Some v) in
-      subst (λ b. IsLaidOut (set es i e) ds × (rows_in (set es i e) ds ≡ with_list b i (list_at b i ++ v ∷ []))) view (pushed es cs i x h there is_row v (omega (arith, room, length_is, capacity_is)))
+      let e : Extent = record { start = x.start; len = x.len + 1; cap = x.cap } in let r = row es cs i x h there is_row in
+      let inside : x.start + x.len < length cs = omega (arith, r.inside, room, length_is, capacity_is) in
+      let room' : length (list_at bank i) + 1 ≤ cap_at bank i = omega (arith, room) in
+      subst (λ d. IsLaidOut (set es i e) d × (rows_in (set es i e) d ≡ with_list bank i (list_at bank i ++ v ∷ []))) (sym (set-replaced cs (x.start + x.len) (Some v) inside)) (append (v ∷ []) room')
 
   pub cut_to : (k : ℕ) → let e : Extent = record { start = x.start; len = min x.len k; cap = x.cap } in IsLaidOut (set es i e) cs × (rows_in (set es i e) cs ≡ with_list bank i (take k (list_at bank i)))
   cut_to k =

@@ -1,6 +1,6 @@
 -- Runs of a list, and lists with a run replaced.
 use Rattle.std.proofs.Common.{◌≡◌, ℕ, ◌+◌, ◌-◌, ◌<◌, ◌≤◌, List, [], ◌∷◌, ◌++◌, length, map, take, drop, set, suc, sym, ap, ◌∙◌, arith, append_assoc, length-append, length-take, length-drop, take-append-drop, take_at, drop_at, drop-drop, take-take, take-add, Option, Some, refl}
-use Rattle.std.proofs.lemmas.List.{set_split, take-append-le, drop-append-le, drop-take, take-map, drop-map}
+use Rattle.std.proofs.lemmas.List.{set_split, set-append_right, take-append-le, drop-append-le, drop-take, take-map, drop-map}
 use Rattle.sota_bank.specs.Places.{somes}
 
 pub somes-map : {X : Type 0} (xs : List X) → somes (map Some xs) ≡ xs
@@ -66,6 +66,21 @@ module _ {Y : Type 0} where
       ∙ ap (λ j. take j (take f l ++ (ds ++ rest))) (sym is_n) ∙ take-add f m (take f l ++ (ds ++ rest))
       ∙ (λ i. take_at (take f l) (ds ++ rest) f front i ++ take m (drop_at (take f l) (ds ++ rest) f front i))
       ∙ (λ i. sym (take-take f n l (omega arith)) i ++ tail i)
+
+  -- a place more
+  pub replaced-more : (cs ds : List Y) (from len : ℕ) (c : Y) → from + len < length cs → length ds ≡ len
+      → set (replaced cs from len ds) (from + len) c ≡ replaced cs from (len + 1) (ds ++ c ∷ [])
+  replaced-more cs ds from len c lt long =
+      let rest = drop (from + len) cs in let front : length (take from cs) ≡ from = omega (arith, length-take from cs) in
+      let inner : from + len - from ≡ len = omega arith in let none : len - len ≡ 0 = omega arith in let on : from + len + 1 ≡ from + (len + 1) = omega arith in
+      let more : 0 < length rest = omega (arith, length-drop (from + len) cs) in
+      let next : set rest 0 c ≡ c ∷ drop (from + (len + 1)) cs = set_split rest 0 c more ∙ ap (λ l. c ∷ l) (drop-drop 1 (from + len) cs ∙ ap (λ j. drop j cs) on) in
+      set-append_right (take from cs) (ds ++ rest) from (from + len) c front (omega arith) ∙ ap (λ j. take from cs ++ set (ds ++ rest) j c) inner
+      ∙ ap (λ l. take from cs ++ l) (set-append_right ds rest len len c long (omega arith) ∙ ap (λ j. ds ++ set rest j c) none ∙ ap (λ l. ds ++ l) next
+      ∙ sym (append_assoc ds (c ∷ []) (drop (from + (len + 1)) cs)))
+
+  pub replaced-none : (cs : List Y) (from : ℕ) → replaced cs from 0 [] ≡ cs
+  replaced-none cs from = let same : from + 0 ≡ from = omega arith in ap (λ j. take from cs ++ drop j cs) same ∙ take-append-drop from cs
 
   pub set-replaced : (cs : List Y) (i : ℕ) (c : Y) → i < length cs → set cs i c ≡ replaced cs i 1 (c ∷ [])
   set-replaced cs i c lt = let one : suc i ≡ i + 1 = omega arith in set_split cs i c lt ∙ ap (λ j. take i cs ++ c ∷ drop j cs) one

@@ -180,6 +180,23 @@ impl<T: Copy> RowBank<T> {
         pushes.tick();
     }
 
+    /// Appends entries to the row, and counts as many pushes.
+    pub fn append<P: Ledger>(&mut self, row: usize, values: &[T], pushes: &mut Steps<P>)
+        requires row { row < length self.old }
+        requires room { length (list_at self.old row) + length values.now ≤ cap_at self.old row }
+        ensures rows { self.new ≡ with_list self.old row (list_at self.old row ++ values.now) }
+        ensures count { pushes.new ≡ pushes.old + length values.now }
+    {
+        let extent = self.extents[row];
+        self.region
+            .write_all(extent.start + extent.len as usize, values);
+        self.extents[row] = Extent {
+            len: extent.len + values.len() as u32,
+            ..extent
+        };
+        pushes.add(values.len() as u64);
+    }
+
     /// Keeps the first `count` entries of the row, or all where there are fewer.
     pub fn cut(&mut self, row: usize, count: u32)
         requires { row < length self.old }

@@ -1,5 +1,5 @@
 //! A block of places that frees itself, by safe methods.
-ghost use Rattle.std.specs.Prelude.{◌≡◌, ◌+◌, ◌<◌, ◌≤◌, List, Option, Some, None, map, length};
+ghost use Rattle.std.specs.Prelude.{◌≡◌, ◌+◌, ◌^◌, ◌<◌, ◌≤◌, List, Option, Some, None, map, length};
 ghost use Rattle.std.specs.Prelude.{take, drop, replicate, slice_set, IfOk};
 ghost use Rattle.std.specs.Borrow.{sem};
 ghost use Rattle.sota_bank.specs.Places.{IsRun, spliced};
@@ -62,6 +62,17 @@ impl<T: Copy> Region<T> {
         ensures { self.new ≡ slice_set self.old index (Some item) }
     {
         self.cells.write(self.base, index, item);
+    }
+
+    /// Writes the places from `from` on.
+    pub(crate) fn write_all(&mut self, from: usize, items: &[T])
+        requires inside { from + length items.now ≤ length self.old }
+        requires small { length self.old ≤ 2 ^ 31 }
+        ensures { self.new ≡ spliced self.old from (length items.now) (map Some items.now) }
+    {
+        for (index, item) in items.iter().enumerate() {
+            self.write(from + index, *item);
+        }
     }
 
     /// The `len` values from the place `from` on.

@@ -19,7 +19,7 @@ fn push_two<P: Ledger>(bank: &mut RowBank<u64>, first: u64, second: u64, blank: 
 {
     let mut pushes = Steps::<P>::new(blank);
     bank.push(0, first, &mut pushes);
-    bank.push(0, second, &mut pushes);
+    bank.append(0, &[second], &mut pushes);
 }
 
 #[test]

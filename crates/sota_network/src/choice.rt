@@ -1,12 +1,12 @@
 // The choices of a grid, which has one for each node and budget.
-ghost use Rattle.std.specs.Prelude.{◌≡◌, ◌≤◌, Some, None, Option};
+ghost use Rattle.std.specs.Prelude.{◌≡◌, ◌≢◌, ◌≤◌, Some, None, Option};
 
 use sota_units::ArcId;
 use std::marker::Model;
 
 /// An arc or none, in four bytes: no arc has the number 0, which stands for none.
 #[derive(Clone, Copy)]
-pub(crate) struct Choice {
+pub struct Choice {
     number: u32,
 }
 
@@ -25,18 +25,29 @@ impl Model for Choice {
 
 impl Choice {
     /// No arc.
-    pub(crate) const NONE: Choice = Choice { number: 0 };
+    pub const NONE: Choice = Choice { number: 0 };
 
     /// The arc of this number.
-    pub(crate) fn new(arc: ArcId) -> Choice
+    pub fn new(arc: ArcId) -> Choice
         requires { 1 ≤ arc }
         ensures { result ≡ Some arc }
     {
         Choice { number: arc.get() }
     }
 
+    /// The arc, or none.
+    pub fn of(arc: Option<ArcId>) -> Choice
+        requires { arc ≢ Some 0 }
+        ensures { result ≡ arc }
+    {
+        match arc {
+            Some(arc) => Choice::new(arc),
+            None => Choice::NONE,
+        }
+    }
+
     /// The arc, if there is one.
-    pub(crate) fn get(self) -> Option<ArcId>
+    pub fn get(self) -> Option<ArcId>
         ensures { result ≡ self }
     {
         if self.number == 0 {

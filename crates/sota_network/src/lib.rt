@@ -9,6 +9,7 @@ pub mod laws;
 mod network;
 mod plain;
 
+pub use choice::Choice;
 pub use grid::Grid;
 pub use network::{Arc, Network, NoArc};
 pub use plain::plain_grid;

@@ -1,7 +1,7 @@
 -- Rows of which one is another.
-use Rattle.std.proofs.Common.{ℕ, zero, suc, ◌≡◌, ◌+◌, ◌-◌, ◌<◌, ◌≤◌, min, List, [], ◌∷◌, ◌++◌, length, get_or, set, take, replicate, Option, None, refl, sym, ◌∙◌, ap, arith, ⊎_elim, subst}
+use Rattle.std.proofs.Common.{ℕ, zero, suc, ◌≡◌, ◌+◌, ◌-◌, ◌<◌, ◌≤◌, min, List, [], ◌∷◌, ◌++◌, length, get_or, set, replicate, Option, None, refl, sym, ◌∙◌, ap, arith, ⊎_elim, subst}
 use Rattle.std.proofs.lemmas.Bool.{cases_eq}
-use Rattle.std.proofs.lemmas.List.{get_or-set_same, get_or-set_other, length-set, length-append, get_or-replicate, append_assoc, take_more}
+use Rattle.std.proofs.lemmas.List.{get_or-set_same, get_or-set_other, length-set, length-append, get_or-replicate}
 use Rattle.std.proofs.Math.ListN.{length-replicate}
 use Rattle.sota_units.specs.Limits.{NODE_LIMIT}
 use Rattle.sota_network.specs.Numbers.{listed}
@@ -269,19 +269,3 @@ module _ (laws : ListLaws) (v : TablesView) (is : IsTablesView v) (needs caps : 
       let l2 : length (list_at upper k) ≡ length (list_at v.upper k) = ap (λ (xs : List ℕ). length xs) (same-lists v.upper upper same-upper k) in
       let l3 : length (list_at choices k) ≡ length (list_at v.choices k) = ap (λ (xs : List (Option ℕ)). length xs) (same-lists v.choices choices same-choices k) in
       omega (arith, cap, c1, c2, c3, l1, l2, l3, s.lower, s.upper, s.choices)
-
--- ---- entries that are appended one after another
-with-with : {X : Type 0} (rows : List (Row X)) (k : ℕ) (xs ys : List X) → k < length rows → with_list (with_list rows k xs) k ys ≡ with_list rows k ys
-with-with [] k xs ys less = absurd (omega arith)
-with-with (r ∷ rows) zero xs ys less = refl
-with-with (r ∷ rows) (suc k) xs ys less = ap (λ rest. r ∷ rest) (with-with rows k xs ys (omega arith))
-
--- one more
-pub appended-more : {X : Type 0} (rows : List (Row X)) (row : ℕ) (values : List X) (k : ℕ) (x : X) → row < length rows → k < length values → x ≡ get_or values k x
-    → (let now : List (Row X) = with_list rows row (list_at rows row ++ take k values) in with_list now row (list_at now row ++ x ∷ [])) ≡ with_list rows row (list_at rows row ++ take (k + 1) values)
-appended-more rows row values k x less within at =
-    let had : list_at (with_list rows row (list_at rows row ++ take k values)) row ≡ list_at rows row ++ take k values = list-own rows row (list_at rows row ++ take k values) less in
-    let front : take (k + 1) values ≡ take k values ++ x ∷ [] = take_more values k x within ∙ ap (λ y. take k values ++ y ∷ []) (sym at) in
-    rw (had, front)
-    (with-with rows row (list_at rows row ++ take k values) ((list_at rows row ++ take k values) ++ x ∷ []) less
-    ∙ ap (λ xs. with_list rows row xs) (append_assoc (list_at rows row) (take k values) (x ∷ [])))

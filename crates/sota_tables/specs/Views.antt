@@ -1,7 +1,7 @@
 -- What a contract sees of tables: lists with one item a node, that of node i at the index i - 1.
 use Rattle.std.specs.Prelude.{ℕ, ◌≡◌, ◌≢◌, ◌-◌, ◌<◌, ◌≤◌, ◌+◌, ◌==◌, ◌++◌, min, max, Bool}
 use Rattle.std.specs.Prelude.{false, List}
-use Rattle.std.specs.Prelude.{length, slice_index, Option, None, Some, if◌then◌else◌}
+use Rattle.std.specs.Prelude.{length, slice_index, Option, None, Some, IsSome, if◌then◌else◌}
 use Rattle.sota_units.specs.Limits.{NODE_LIMIT}
 use Rattle.sota_units.specs.Rounding.{ONE}
 use Rattle.sota_bank.specs.Rows.{Row, list_at, cap_at, lists}
@@ -57,6 +57,13 @@ pub record IsTablesView (v : TablesView) : Type 0 where
 abbrev pub is_at_dest : Option ℕ → ℕ → Bool
 is_at_dest None i = false
 is_at_dest (Some dest) i = i == dest
+
+-- what is answered of node i at budget t is known: there is a destination, and it is node i, or the
+-- budget is below the node's known end
+pub record IsKnownAt (v : TablesView) (i t : ℕ) : Type 0 where
+  pub dest : IsSome v.dest
+  pub node : HasNode v i
+  pub below : is_at_dest v.dest i ≡ false → t < known_end (table_at v i)
 
 -- who stands at the destination has arrived, and has no arc to take
 abbrev pub lower_at : TablesView → ℕ → ℕ → ℕ

@@ -1,20 +1,23 @@
 // Tables of bounds and choices.
-ghost use Rattle.std.specs.Prelude.{ℕ, ◌≡◌, ◌≢◌, ◌+◌, ◌-◌, ◌*◌, ◌<◌, ◌≤◌, ◌++◌, true, false};
-ghost use Rattle.std.specs.Prelude.{length, slice_index, nat_lt, if◌then◌else◌, IfOk, IsSome, OnOk};
+ghost use Rattle.std.specs.Prelude.{ℕ, ◌≡◌, ◌≢◌, ◌+◌, ◌-◌, ◌*◌, ◌<◌, ◌≤◌, true, false};
+ghost use Rattle.std.specs.Prelude.{length, slice_index, nat_lt, if◌then◌else◌, IfOk, OnOk};
 ghost use Rattle.std.specs.Prelude.{None, Some};
 ghost use Rattle.std.specs.List.{All, sum};
 ghost use Rattle.sota_units.specs.Limits.{NODE_LIMIT};
+ghost use Rattle.sota_units.specs.Rounding.{ONE};
 ghost use Rattle.sota_network.specs.Numbers.{listed};
-ghost use Rattle.sota_bank.specs.Rows.{list_at, cap_at, with_list, lists};
+ghost use Rattle.sota_bank.specs.Rows.{list_at, lists};
 ghost use Rattle.sota_kept.specs.Ticks.{END_LIMIT};
 ghost use Rattle.sota_kept.specs.States.{KEPT_LIMIT};
 ghost use Rattle.sota_kept.specs.NodeTables.{known_end, cut_to, pushed_table};
 ghost use Rattle.sota_kept.specs.NodeTables.{emptied_table, rebased_table};
 ghost use Rattle.sota_tables.specs.Views.{TablesView, IsTablesView, HasNode, OnlyAt, SameNodes};
-ghost use Rattle.sota_tables.specs.Views.{lists_of, table_at, is_at_dest, lower_at, upper_at};
-ghost use Rattle.sota_tables.specs.Views.{choice_in, room_of, row_needed, HasRoom, longer_table};
+ghost use Rattle.sota_tables.specs.Views.{IsKnownAt, lists_of, table_at, is_at_dest};
+ghost use Rattle.sota_tables.specs.Views.{lower_at, upper_at, choice_in, room_of, row_needed};
+ghost use Rattle.sota_tables.specs.Views.{HasRoom, longer_table};
 
 use sota_bank::RowBank;
+use sota_network::Choice;
 use sota_network::laws::lists_by_number;
 use sota_units::{ArcId, BUDGET_LIMIT, Grain, NoMemory, NodeId, Steps};
 use std::alloc::Global;
@@ -30,7 +33,7 @@ pub struct Tables {
     bases: Vec<u32>,
     lower: RowBank<Grain>,
     upper: RowBank<Grain>,
-    choices: RowBank<Option<ArcId>>,
+    choices: RowBank<Choice>,
 }
 
 impl Model for Tables {
@@ -111,7 +114,9 @@ impl Tables {
     /// Lends the lower bounds of a node, from its base on.
     pub fn lower_row(&self, node: NodeId) -> &[Grain]
         requires { HasNode self.now node }
-        ensures { result.now ≡ (table_at self.now node).lower }
+        ensures value { result.now ≡ (table_at self.now node).lower }
+        ensures length { length result.now
+            ≡ (table_at self.now node).front - (table_at self.now node).base }
     {
         self.lower.front(node.get() as usize - 1)
     }
@@ -119,7 +124,9 @@ impl Tables {
     /// Lends the upper bounds of a node, from its base on.
     pub fn upper_row(&self, node: NodeId) -> &[Grain]
         requires { HasNode self.now node }
-        ensures { result.now ≡ (table_at self.now node).upper }
+        ensures value { result.now ≡ (table_at self.now node).upper }
+        ensures length { length result.now
+            ≡ (table_at self.now node).front - (table_at self.now node).base }
     {
         self.upper.front(node.get() as usize - 1)
     }
@@ -127,41 +134,24 @@ impl Tables {
     /// The lower bound at a budget that is known: one at the destination, and 0 where there is no
     /// entry.
     pub fn lower(&self, node: NodeId, budget: u32) -> Grain
-        requires dest { IsSome self.now.dest }
-        requires node { HasNode self.now node }
-        requires known { is_at_dest self.now.dest node ≡ false
-            → budget < known_end (table_at self.now node) }
+        requires { IsKnownAt self.now node budget }
         ensures { result ≡ lower_at self.now node budget }
     {
-        let base = self.bases[node.get() as usize - 1];
-        if self.is_at_dest(node) {
-            return Grain::ONE;
-        }
-        value_at(self.lower_row(node), base, budget)
+        self.value_at(self.lower_row(node), node, budget)
     }
 
     /// The upper bound at a budget that is known: one at the destination, and 0 where there is no
     /// entry.
     pub fn upper(&self, node: NodeId, budget: u32) -> Grain
-        requires dest { IsSome self.now.dest }
-        requires node { HasNode self.now node }
-        requires known { is_at_dest self.now.dest node ≡ false
-            → budget < known_end (table_at self.now node) }
+        requires { IsKnownAt self.now node budget }
         ensures { result ≡ upper_at self.now node budget }
     {
-        let base = self.bases[node.get() as usize - 1];
-        if self.is_at_dest(node) {
-            return Grain::ONE;
-        }
-        value_at(self.upper_row(node), base, budget)
+        self.value_at(self.upper_row(node), node, budget)
     }
 
     /// The choice at a budget that is known. None at the destination, and where there is no entry.
     pub fn choice(&self, node: NodeId, budget: u32) -> Option<ArcId>
-        requires dest { IsSome self.now.dest }
-        requires node { HasNode self.now node }
-        requires known { is_at_dest self.now.dest node ≡ false
-            → budget < known_end (table_at self.now node) }
+        requires { IsKnownAt self.now node budget }
         ensures { result ≡ choice_in self.now node budget }
     {
         let index = node.get() as usize - 1;
@@ -169,7 +159,26 @@ impl Tables {
         if self.is_at_dest(node) || budget < base {
             return None;
         }
-        self.choices.front(index)[(budget - base) as usize]
+        self.choices.front(index)[(budget - base) as usize].get()
+    }
+
+    /// The value of a node at a budget, in a row from its base on.
+    fn value_at(&self, row: &[Grain], node: NodeId, budget: u32) -> Grain
+        requires known { IsKnownAt self.now node budget }
+        requires row { length row.now
+            ≡ (table_at self.now node).front - (table_at self.now node).base }
+        ensures { result ≡ if is_at_dest self.now.dest node then ONE else
+            if nat_lt budget (table_at self.now node).base then 0
+            else slice_index row.now (budget - (table_at self.now node).base) }
+    {
+        let base = self.bases[node.get() as usize - 1];
+        if self.is_at_dest(node) {
+            return Grain::ONE;
+        }
+        if budget < base {
+            return Grain::ZERO;
+        }
+        row[(budget - base) as usize]
     }
 
     /// Whether this node is the destination.
@@ -272,6 +281,7 @@ impl Tables {
         pushes: &mut Steps<P>,
     )
         requires node { HasNode self.old node }
+        requires choice { choice ≢ Some 0 }
         requires room { 1 ≤ room_of self.old node }
         requires end { known_end (table_at self.old node) < END_LIMIT }
         ensures entry { table_at self.new node
@@ -286,7 +296,7 @@ impl Tables {
         let end = self.fronts[index].max(self.bases[index]);
         self.lower.push(index, lower, pushes);
         self.upper.push(index, upper, pushes);
-        self.choices.push(index, choice, pushes);
+        self.choices.push(index, Choice::of(choice), pushes);
         self.fronts[index] = end + 1;
     }
 
@@ -297,7 +307,7 @@ impl Tables {
         node: NodeId,
         lower: &[Grain],
         upper: &[Grain],
-        choices: &[Option<ArcId>],
+        choices: &[Choice],
         pushes: &mut Steps<P>,
     )
         requires node { HasNode self.old node }
@@ -315,9 +325,9 @@ impl Tables {
     {
         let index = node.get() as usize - 1;
         let end = self.bases[index].max(self.fronts[index]);
-        append(&mut self.lower, index, lower, pushes);
-        append(&mut self.upper, index, upper, pushes);
-        append(&mut self.choices, index, choices, pushes);
+        self.lower.append(index, lower, pushes);
+        self.upper.append(index, upper, pushes);
+        self.choices.append(index, choices, pushes);
         self.fronts[index] = end + lower.len() as u32;
     }
 
@@ -335,34 +345,6 @@ impl Tables {
         self.choices.cut(index, count);
         self.fronts[index] = kept;
     }
-}
-
-/// Appends entries to a row of a bank, and counts them.
-fn append<T: Copy, P: Ledger>(
-    bank: &mut RowBank<T>,
-    row: usize,
-    values: &[T],
-    pushes: &mut Steps<P>,
-)
-    requires row { row < length bank.old }
-    requires room { length (list_at bank.old row) + length values.now ≤ cap_at bank.old row }
-    ensures rows { bank.new ≡ with_list bank.old row (list_at bank.old row ++ values.now) }
-    ensures count { pushes.new ≡ pushes.old + length values.now }
-{
-    for value in values {
-        bank.push(row, *value, pushes);
-    }
-}
-
-/// The value at a budget in a row from this base on: 0 below the base.
-fn value_at(row: &[Grain], base: u32, budget: u32) -> Grain
-    requires { base ≤ budget → budget - base < length row.now }
-    ensures { result ≡ if nat_lt budget base then 0 else slice_index row.now (budget - base) }
-{
-    if budget < base {
-        return Grain::ZERO;
-    }
-    row[(budget - base) as usize]
 }
 
 /// Gives each row of a bank at least this capacity. Nothing is moved where each has it already.

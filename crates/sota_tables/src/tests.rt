@@ -3,6 +3,7 @@ ghost use Rattle.std.specs.Prelude.{◌≡◌, ◌<◌, ◌≤◌, ◌∷◌, []
 ghost use Rattle.sota_tables.specs.Views.{table_at, room_of};
 
 use crate::Tables;
+use sota_network::Choice;
 use sota_units::{ArcId, Grain, NoMemory, NodeId, Steps};
 use std::alloc::Global;
 use std::marker::Brand;
@@ -45,7 +46,7 @@ fn push_two<P: Ledger>(tables: &mut Tables, blank: Blank)
 {
     let mut pushes = Steps::<P>::new(blank);
     tables.push_entry(NodeId(1), Grain::ZERO, Grain::ONE, None, &mut pushes);
-    let (one, second) = ([Grain::ONE], [Some(ArcId(2))]);
+    let (one, second) = ([Grain::ONE], [Choice::new(ArcId(2))]);
     tables.push_extent(NodeId(1), &one, &one, &second, &mut pushes);
 }
 

@@ -19,4 +19,4 @@ invariant_of-self g c =
     let end : c.max-end.result ≡ known_end (table_at v n) = omega (arith, c.max-end.ensures, front, base) in
     let room : known_end (table_at v c.args.node) < END_LIMIT = subst (λ (x : TablesView). known_end (table_at x c.args.node) < END_LIMIT) (sym c.self.view_is) c.requires.end in
     let room' : c.max-end.result < END_LIMIT = omega (arith, end, ap (λ (x : ℕ). known_end (table_at v x)) at, room) in
-    rw (c.push.ensures.rows, c.push-2.ensures.rows, c.push-3.ensures.rows) (view-pushed v is n c.max-end.result c.args.lower c.args.upper c.args.choice low high end room')
+    rw (c.push.ensures.rows, c.push-2.ensures.rows, c.push-3.ensures.rows) (view-pushed v is n c.max-end.result c.args.lower c.args.upper c.of.result low high end room')
