@@ -1,12 +1,29 @@
 -- Walks between the source of a search and a node, in the order in which the search meets their arcs.
-use Rattle.std.proofs.Common.{ℕ, ◌≡◌, ◌≢◌, ◌+◌, ◌≤◌, false, None, Some, refl, subst, arith}
+use Rattle.std.proofs.Common.{ℕ, ◌≡◌, ◌≢◌, ◌+◌, ◌≤◌, Bool, true, false, length, None, Some, refl, subst, arith}
+use Rattle.std.specs.List.{All, Contains}
 use Rattle.sota_hist.specs.Time.{is_closed, least_tick}
-use Rattle.sota_network.specs.Network.{Net, arc_at}
+use Rattle.sota_network.specs.Network.{Net, IsNode, IsArc, arc_at}
+use Rattle.sota_network.specs.Numbers.{numbers}
 use Rattle.sota_network.specs.Walks.{Walk, empty, step}
 use Rattle.sota_network.specs.declared.network.Arc.{Arc}
 use Rattle.sota_bounds.specs.Search.{start_of, end_of, IsLeastBetween}
 use Rattle.sota_bounds.specs.declared.search.Direction.{Direction}
 use Rattle.sota_bounds.specs.declared.search.Direction.TheVariants.{Along, Against}
+
+-- what the laws of networks say of arcs by their numbers
+pub record HasArcs (net : Net) : Type 0 where
+  pub valid : (e : ℕ) (arc : Arc) → arc_at net e ≡ Some arc → IsArc net arc
+  pub only : (test : Arc → Bool) → All (λ (e : ℕ). (arc : Arc) × (arc_at net e ≡ Some arc) × (test arc ≡ true)) (numbers test 1 net.arcs)
+  pub every : (test : Arc → Bool) (e : ℕ) (arc : Arc) → arc_at net e ≡ Some arc → test arc ≡ true → Contains (numbers test 1 net.arcs) e
+  pub few : (test : Arc → Bool) → length (numbers test 1 net.arcs) ≤ length net.arcs
+
+pub start-valid : (net : Net) (direction : Direction) (arc : Arc) → IsArc net arc → IsNode net (start_of direction arc)
+start-valid net Along arc is = is.tail
+start-valid net Against arc is = is.head
+
+pub end-valid : (net : Net) (direction : Direction) (arc : Arc) → IsArc net arc → IsNode net (end_of direction arc)
+end-valid net Along arc is = is.head
+end-valid net Against arc is = is.tail
 
 -- a walk may go over the arc
 abbrev pub IsUsable : ℕ → Arc → Type 0

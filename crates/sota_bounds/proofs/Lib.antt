@@ -1,4 +1,3 @@
-pub mod Numbered
 pub mod Joined
 pub mod Settling
 pub mod Settled

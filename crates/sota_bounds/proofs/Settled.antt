@@ -1,14 +1,14 @@
 -- One more node is settled, and the visits to which it leads are queued.
-use Rattle.std.proofs.Common.{ℕ, suc, ◌≡◌, ◌≢◌, ◌+◌, ◌-◌, ◌*◌, ◌<◌, ◌≤◌, ◌==◌, ◌||◌, Bool, true, false, cond, List, ◌∷◌, ◌++◌, length, set, Option, None, Some, refl, sym, ◌∙◌, ap, subst, arith, inl, inr, ◌⊎◌, ⊎_elim, length-append}
+use Rattle.std.proofs.Common.{ℕ, suc, ◌≡◌, ◌≢◌, ◌+◌, ◌-◌, ◌*◌, ◌<◌, ◌≤◌, ◌==◌, ◌||◌, Bool, true, false, cond, List, [], ◌∷◌, ◌++◌, length, set, Option, None, Some, refl, sym, ◌∙◌, ap, subst, arith, inl, inr, ◌⊎◌, ⊎_elim, length-append}
 use Rattle.std.specs.List.{All, Contains}
 use Rattle.std.specs.Option.{is_some, option_and_then}
 use Rattle.std.specs.List.Sorted.{IsPermutation}
 use Rattle.std.proofs.Math.ListN.{length-set}
 use Rattle.std.proofs.lemmas.List.Sums.{count_by-le-length}
-use Rattle.std.proofs.lemmas.List.Elements.{All-contains, All-tail, All-append, All-weaker, Contains-append_left, Contains-append_right}
+use Rattle.std.proofs.lemmas.List.Elements.{All-contains, All-tail, All-append, All-weaker, Contains-append_left, Contains-append_right, Contains-push}
 use Rattle.std.proofs.lemmas.List.Sorted.{All-permutation, Contains-permutation, length_permutation, IsPermutation-sym}
 use Rattle.std.proofs.lemmas.Option.{none-some}
-use Rattle.std.proofs.lemmas.Bool.{cases_eq, eqb-false, ne_eqb, true≢false}
+use Rattle.std.proofs.lemmas.Bool.{cases_eq, eqb-false, eqb-true, eq-eqb, ne_eqb, true≢false}
 use Rattle.sota_hist.specs.Time.{is_closed, least_tick}
 use Rattle.sota_network.specs.Network.{Net, IsNode, arc_at}
 use Rattle.sota_network.specs.declared.network.Arc.{Arc}
@@ -16,8 +16,8 @@ use Rattle.sota_units.specs.Limits.{TICK_LIMIT}
 use Rattle.sota_bounds.specs.Search.{start_of, end_of, arcs_at, time_at, further, next_visit, next_visits}
 use Rattle.sota_bounds.specs.declared.search.Direction.{Direction}
 use Rattle.sota_bounds.specs.declared.search.Visit.{Visit}
-use Rattle.sota_bounds.proofs.Numbered.{HasArcs, in-head, start-valid, end-valid, IsOut, outs, out-has, filter_map-all, filter_map-has, filter_map-short, numbers-short}
-use Rattle.sota_bounds.proofs.Joined.{IsUsable, Joins, IsLeastJoin, joins-step}
+use Rattle.sota_bounds.proofs.Queued.{filter_map-all, filter_map-has, filter_map-short}
+use Rattle.sota_bounds.proofs.Joined.{HasArcs, start-valid, end-valid, IsUsable, Joins, IsLeastJoin, joins-step}
 use Rattle.sota_bounds.proofs.Settling.{settled, IsWait, IsSettled, Waits, IsSearch, settled-here, settled-other, settled-more, still-waits, earliest-least}
 
 unless : {X : Type 0} (b : Bool) (x y : X) → cond b None (Some x) ≡ Some y → (b ≡ false) × (x ≡ y)
@@ -39,7 +39,7 @@ next-here : (direction : Direction) (dest : ℕ) (visit : Visit) (times : List (
     → next_visit direction dest visit times arc ≡ Some (further direction visit arc)
 next-here direction dest visit times arc usable never = rw (ne_eqb arc.tail dest usable.0, usable.1, never) refl
 
-module _ (net : Net) (valid : HasArcs net) (dest : ℕ) (direction : Direction) (source : ℕ) (visit : Visit) (times : List (Option ℕ)) where
+module _ (net : Net) (arcs : HasArcs net) (dest : ℕ) (direction : Direction) (source : ℕ) (visit : Visit) (times : List (Option ℕ)) where
   -- the visits that are queued come from walks
   queued-one : (e : ℕ) (w : Visit) → Joins net dest direction source visit.node visit.time.0 → (arc : Arc) → arc_at net e ≡ Some arc → start_of direction arc ≡ visit.node
       → option_and_then (next_visit direction dest visit times) (arc_at net e) ≡ Some w → IsNode net w.node × Joins net dest direction source w.node w.time.0
@@ -47,21 +47,20 @@ module _ (net : Net) (valid : HasArcs net) (dest : ℕ) (direction : Direction) 
       let parts = next-read direction dest visit times arc w (sym (ap (option_and_then (next_visit direction dest visit times)) number) ∙ is) in
       let from_start : Joins net dest direction source (start_of direction arc) visit.time.0 = rw start walk in
       subst (λ (v : Visit). IsNode net v.node × Joins net dest direction source v.node v.time.0) parts.1
-      (end-valid net direction arc (valid e arc number), joins-step net dest direction source e arc visit.time.0 number parts.0 from_start)
+      (end-valid net direction arc (arcs.valid e arc number), joins-step net dest direction source e arc visit.time.0 number parts.0 from_start)
 
   pub queued-all : Joins net dest direction source visit.node visit.time.0 → All (λ (w : Visit). IsNode net w.node × Joins net dest direction source w.node w.time.0) (next_visits net direction dest visit times)
   queued-all walk =
-      filter_map-all (λ (w : Visit). IsNode net w.node × Joins net dest direction source w.node w.time.0) (λ e. option_and_then (next_visit direction dest visit times) (arc_at net e)) (arcs_at direction net visit.node)
-      (λ e w among is.
-      let out : IsOut net direction visit.node e = All-contains (IsOut net direction visit.node) (arcs_at direction net visit.node) e (outs net direction visit.node) among in
-      queued-one e w walk out.arc out.number out.start is)
+      filter_map-all (λ (e : ℕ). (arc : Arc) × (arc_at net e ≡ Some arc) × ((start_of direction arc == visit.node) ≡ true)) (λ (w : Visit). IsNode net w.node × Joins net dest direction source w.node w.time.0)
+      (λ e. option_and_then (next_visit direction dest visit times) (arc_at net e)) (arcs_at direction net visit.node) (arcs.only (λ arc. start_of direction arc == visit.node))
+      (λ e w out is. queued-one e w walk out.0 out.1 (eqb-true (start_of direction out.0) visit.node out.2) is)
 
   -- each arc at the node leads to what is settled, or to one of them
   pub queued-has : (e : ℕ) (arc : Arc) → arc_at net e ≡ Some arc → IsUsable dest arc → start_of direction arc ≡ visit.node → time_at times (end_of direction arc) ≡ None
       → Contains (next_visits net direction dest visit times) (further direction visit arc)
   queued-has e arc number usable start never =
       filter_map-has (λ n. option_and_then (next_visit direction dest visit times) (arc_at net n)) (arcs_at direction net visit.node) e (further direction visit arc)
-      (out-has net direction visit.node e arc number start)
+      (arcs.every (λ a. start_of direction a == visit.node) e arc number (eq-eqb (start_of direction arc) visit.node start))
       (ap (option_and_then (next_visit direction dest visit times)) number ∙ next-here direction dest visit times arc usable never)
 
 -- what a settled node has at its end, or nothing
@@ -87,10 +86,10 @@ pub record IsStep (net : Net) (dest : ℕ) (direction : Direction) (times new_ti
   pub queued : IsPermutation (rest ++ next_visits net direction dest visit new_times) queue
   pub soon : (limit : ℕ) → visit.time.0 + TICK_LIMIT ≤ limit → All (λ (w : Visit). w.time.0 ≤ limit) rest → All (λ (w : Visit). w.time.0 ≤ limit) queue
 
-module _ (net : Net) (valid : HasArcs net) (dest : ℕ) (direction : Direction) (source : ℕ) (at_source : IsNode net source) (times new_times : List (Option ℕ)) (old rest queue : List Visit) (visit : Visit)
+module _ (net : Net) (arcs : HasArcs net) (dest : ℕ) (direction : Direction) (source : ℕ) (at_source : IsNode net source) (times new_times : List (Option ℕ)) (old rest queue : List Visit) (visit : Visit)
     (is : IsSearch net dest direction source times old) (step : IsStep net dest direction times new_times old rest queue visit) where
   among : Contains old visit
-  among = Contains-permutation (visit ∷ rest) old visit (IsPermutation-sym old (visit ∷ rest) step.moved) (in-head visit rest)
+  among = Contains-permutation (visit ∷ rest) old visit (IsPermutation-sym old (visit ∷ rest) step.moved) (Contains-append_left (visit ∷ []) rest visit (Contains-push [] visit))
 
   waited : IsWait net dest direction source (settled times) visit
   waited = All-contains (IsWait net dest direction source (settled times)) old visit is.waits among
@@ -111,7 +110,7 @@ module _ (net : Net) (valid : HasArcs net) (dest : ℕ) (direction : Direction) 
   one-more = ap settled step.becomes ∙ settled-more times visit.node visit.time.0 within step.never
 
   found : IsLeastJoin net dest direction source visit.node visit.time.0
-  found = earliest-least net valid dest direction source at_source times old is visit among step.earliest step.never
+  found = earliest-least net arcs dest direction source at_source times old is visit among step.earliest step.never
 
   -- what was settled stays so
   still-settled : (i : ℕ) → IsNode net i → IsSettled times i → IsSettled new_times i
@@ -140,7 +139,7 @@ module _ (net : Net) (valid : HasArcs net) (dest : ℕ) (direction : Direction) 
       All-permutation (λ (w : Visit). IsNode net w.node × Joins net dest direction source w.node w.time.0) (rest ++ next_visits net direction dest visit new_times) queue step.queued
       (All-append (λ (w : Visit). IsNode net w.node × Joins net dest direction source w.node w.time.0) rest (next_visits net direction dest visit new_times)
       (All-weaker (IsWait net dest direction source (settled times)) (λ (w : Visit). IsNode net w.node × Joins net dest direction source w.node w.time.0) (λ w wait. (wait.node, wait.walk)) rest rest-waits)
-      (queued-all net valid dest direction source visit new_times waited.walk)) in
+      (queued-all net arcs dest direction source visit new_times waited.walk)) in
       let all_soon : All (λ (w : Visit). w.time.0 ≤ settled new_times * TICK_LIMIT) queue =
       step.soon (settled new_times * TICK_LIMIT) (omega (arith, waited.soon, one-more))
       (All-weaker (IsWait net dest direction source (settled times)) (λ (w : Visit). w.time.0 ≤ settled new_times * TICK_LIMIT) (λ w wait. omega (arith, wait.soon, one-more)) rest rest-waits) in
@@ -158,15 +157,15 @@ module _ (net : Net) (valid : HasArcs net) (dest : ℕ) (direction : Direction) 
   new-closed : (e : ℕ) (arc : Arc) (n : ℕ) → arc_at net e ≡ Some arc → IsUsable dest arc → time_at new_times (start_of direction arc) ≡ Some n
       → IsSettled new_times (end_of direction arc) ⊎ Waits queue (end_of direction arc) (n + least_tick arc.time)
   new-closed e arc n number usable at =
-      let start_node : IsNode net (start_of direction arc) = start-valid net direction arc (valid e arc number) in
-      let end_node : IsNode net (end_of direction arc) = end-valid net direction arc (valid e arc number) in
+      let start_node : IsNode net (start_of direction arc) = start-valid net direction arc (arcs.valid e arc number) in
+      let end_node : IsNode net (end_of direction arc) = end-valid net direction arc (arcs.valid e arc number) in
       ⊎_elim
       (λ (same : start_of direction arc ≡ visit.node).
       let time : visit.time.0 ≡ n = some-same visit.time.0 n (sym here ∙ ap (time_at new_times) (sym same) ∙ at) in
       ⊎_elim
       (λ (done : IsSettled new_times (end_of direction arc)). inl done)
       (λ (never : time_at new_times (end_of direction arc) ≡ None).
-      let has : Contains (next_visits net direction dest visit new_times) (further direction visit arc) = queued-has net valid dest direction source visit new_times e arc number usable same never in
+      let has : Contains (next_visits net direction dest visit new_times) (further direction visit arc) = queued-has net arcs dest direction source visit new_times e arc number usable same never in
       inr (
         further direction visit arc,
         Contains-permutation (rest ++ next_visits net direction dest visit new_times) queue (further direction visit arc) step.queued
@@ -196,6 +195,6 @@ module _ (net : Net) (valid : HasArcs net) (dest : ℕ) (direction : Direction) 
       let parts : length (rest ++ next_visits net direction dest visit new_times) ≡ length rest + length (next_visits net direction dest visit new_times) = length-append rest (next_visits net direction dest visit new_times) in
       let short : length (next_visits net direction dest visit new_times) ≤ length (arcs_at direction net visit.node) =
       filter_map-short (λ e. option_and_then (next_visit direction dest visit new_times) (arc_at net e)) (arcs_at direction net visit.node) in
-      let few : length (arcs_at direction net visit.node) ≤ length net.arcs = numbers-short (λ (arc : Arc). start_of direction arc == visit.node) 1 net.arcs in
+      let few : length (arcs_at direction net visit.node) ≤ length net.arcs = arcs.few (λ arc. start_of direction arc == visit.node) in
       let before : suc (length rest) ≡ length old = length_permutation old (visit ∷ rest) step.moved in
       falls (length times) (settled times) (length net.arcs) (length new_times) (settled new_times) (length queue) (length old) same-count one-more (omega arith) (omega arith)

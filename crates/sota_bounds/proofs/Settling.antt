@@ -5,7 +5,7 @@ use Rattle.std.specs.Option.{is_some}
 use Rattle.std.specs.List.Sorted.{IsPermutation}
 use Rattle.std.proofs.lemmas.List.{get_or-set_same, get_or-set_other, get_or_default}
 use Rattle.std.proofs.lemmas.List.Sums.{sum_by-set}
-use Rattle.std.proofs.lemmas.List.Elements.{All-contains, All-nil, All-head, All-tail, All-cons}
+use Rattle.std.proofs.lemmas.List.Elements.{All-contains, All-nil, All-head, All-tail, All-cons, Contains-push}
 use Rattle.std.proofs.lemmas.List.Sorted.{All-permutation, Contains-permutation}
 use Rattle.std.proofs.lemmas.Option.{none-some}
 use Rattle.std.proofs.lemmas.Bool.{true≢false}
@@ -16,8 +16,8 @@ use Rattle.sota_units.specs.Limits.{TICK_LIMIT}
 use Rattle.sota_bounds.specs.Search.{start_of, end_of, time_at, IsLeastBetween}
 use Rattle.sota_bounds.specs.declared.search.Direction.{Direction}
 use Rattle.sota_bounds.specs.declared.search.Visit.{Visit}
-use Rattle.sota_bounds.proofs.Numbered.{HasArcs, in-cons, in-head, start-valid, end-valid}
-use Rattle.sota_bounds.proofs.Joined.{IsUsable, Joins, IsLeastJoin, least-some, least-none, joins-start, joins-step, joins-kept}
+use Rattle.sota_bounds.proofs.Queued.{in-cons}
+use Rattle.sota_bounds.proofs.Joined.{HasArcs, start-valid, end-valid, IsUsable, Joins, IsLeastJoin, least-some, least-none, joins-start, joins-step, joins-kept}
 
 -- how many nodes are settled
 abbrev pub settled : List (Option ℕ) → ℕ
@@ -90,7 +90,7 @@ visited net dest direction source times queue rest visit k is moved at =
     let wait = All-head (IsWait net dest direction source (settled times)) visit rest (All-permutation (IsWait net dest direction source (settled times)) queue (visit ∷ rest) moved is.waits) in
     omega (arith, wait.node, is.count)
 
-module _ (net : Net) (valid : HasArcs net) (dest : ℕ) (direction : Direction) (source : ℕ) (at_source : IsNode net source) where
+module _ (net : Net) (arcs : HasArcs net) (dest : ℕ) (direction : Direction) (source : ℕ) (at_source : IsNode net source) where
   -- ---- a walk usable what is settled over an arc, so that something waits no later than it ends
   abbrev pub Reached : List (Option ℕ) → List Visit → ℕ → ℕ → Type 0
   Reached times queue i n = IsNode net i × (((m : ℕ) × (time_at times i ≡ Some m) × (m ≤ n)) ⊎ ((visit : Visit) × Contains queue visit × (visit.time.0 ≤ n)))
@@ -114,7 +114,7 @@ module _ (net : Net) (valid : HasArcs net) (dest : ℕ) (direction : Direction) 
     reached-kept : (e : ℕ) (arc : Arc) (n : ℕ) → arc_at net e ≡ Some arc → IsUsable dest arc → Joins net dest direction source (start_of direction arc) n
         → Reached times queue (start_of direction arc) n → Reached times queue (end_of direction arc) (n + least_tick arc.time)
     reached-kept e arc n number usable walk here =
-        let node : IsNode net (end_of direction arc) = end-valid net direction arc (valid e arc number) in
+        let node : IsNode net (end_of direction arc) = end-valid net direction arc (arcs.valid e arc number) in
         let longer : Joins net dest direction source (end_of direction arc) (n + least_tick arc.time) = joins-step net dest direction source e arc n number usable walk in (
           node,
           ⊎_elim
@@ -187,6 +187,6 @@ module _ (net : Net) (valid : HasArcs net) (dest : ℕ) (direction : Direction) 
         waits = All-permutation (IsWait net dest direction source (settled times)) (visit ∷ []) queue moved
             (All-cons (IsWait net dest direction source (settled times)) visit [] (record { node = node; walk = walk; soon = soon }) (All-nil (IsWait net dest direction source (settled times))));
         least = λ i n node here. absurd (unsettled i n node here);
-        first = inr (visit, Contains-permutation (visit ∷ []) queue visit moved (in-head visit []), at, time);
-        closed = λ e arc n number usable here. absurd (unsettled (start_of direction arc) n (start-valid net direction arc (valid e arc number)) here);
+        first = inr (visit, Contains-permutation (visit ∷ []) queue visit moved (Contains-push [] visit), at, time);
+        closed = λ e arc n number usable here. absurd (unsettled (start_of direction arc) n (start-valid net direction arc (arcs.valid e arc number)) here);
       }

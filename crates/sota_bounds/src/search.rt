@@ -9,7 +9,7 @@ ghost use Rattle.sota_network.specs.Network.{IsNode};
 ghost use Rattle.sota_bounds.specs.Search.{end_of, arcs_at, time_at, next_visit, next_visits};
 ghost use Rattle.sota_bounds.specs.Search.{by_time, IsLeastBetween};
 
-use sota_network::laws::arcs_by_number;
+use sota_network::laws::{arcs_by_number, numbers_of_arcs};
 use sota_network::{Arc, Network};
 use sota_units::{ArcId, NoMemory, NodeId};
 use std::alloc::Global;
@@ -48,6 +48,7 @@ pub(crate) fn least_times(
         → IsLeastBetween network.now dest direction source i (time_at times.items i)) }
 {
     arcs_by_number();
+    numbers_of_arcs();
     let mut times = vec![in alloc; None; network.nodes() as usize]?;
     let mut queue = BinaryHeap::new(alloc);
     queue.push(Visit {
@@ -85,10 +86,8 @@ fn queue_next(
         → All (λ v. v.time.0 ≤ limit) (heap_items queue.old)
         → All (λ v. v.time.0 ≤ limit) (heap_items queue.new) }
 {
-    arcs_by_number();
-    let arcs = network.arcs();
     for number in direction.arcs_at(network, visit.node) {
-        let arc = &arcs[number.get() as usize - 1];
+        let arc = network.numbered(*number);
         if let Some(next) = direction.next_visit(arc, dest, visit, times) {
             queue.push(next)?;
         }
@@ -100,7 +99,8 @@ impl Direction {
     /// The numbers of the arcs over which a search leaves a node.
     fn arcs_at<'a>(self, network: &'a Network, node: NodeId) -> &'a [ArcId]
         requires { IsNode network.now node }
-        ensures { result.now ≡ arcs_at self network.now node }
+        ensures value { result.now ≡ arcs_at self network.now node }
+        ensures within { All (λ e. (1 ≤ e) × (e ≤ length network.now.arcs)) result.now }
     {
         match self {
             Direction::Along => network.leaving(node),

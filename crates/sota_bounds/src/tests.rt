@@ -8,29 +8,14 @@ use sota_units::{Mass, NoMemory, NodeId, Scale, Tick};
 use std::alloc::Global;
 use std::test::Fail;
 
-/// An arc that takes the same time always.
-fn certain_arc(alloc: Global, tail: u32, head: u32, tick: u32) -> Result<Arc, NoMemory>
-    requires { 1 ≤ tick }
-    ensures tail { IfOk result (λ arc. arc.tail ≡ tail) }
-    ensures head { IfOk result (λ arc. arc.head ≡ head) }
-    ensures time { IfOk result (λ arc. arc.time ≡ (tick, 1) ∷ []) }
-{
-    let time = Histogram::certain(alloc, Scale::ONE, Tick(tick))?;
-    Ok(Arc {
-        tail: NodeId(tail),
-        head: NodeId(head),
-        time,
-    })
-}
-
 /// From 1 to 3 by way of 2 in two ticks, for the straight arc is closed; and from 3 on to 4.
 fn barred_triangle(alloc: Global) -> Result<Network, NoMemory>
     ensures { IfOk result (λ network. network.nodes ≡ 4) }
 {
     let mut arcs = Vec::new(alloc);
-    arcs.push(certain_arc(alloc, 1, 2, 1)?)?;
-    arcs.push(certain_arc(alloc, 2, 3, 1)?)?;
-    arcs.push(certain_arc(alloc, 3, 4, 1)?)?;
+    arcs.push(Arc::certain(alloc, NodeId(1), NodeId(2), Scale::ONE, Tick(1))?)?;
+    arcs.push(Arc::certain(alloc, NodeId(2), NodeId(3), Scale::ONE, Tick(1))?)?;
+    arcs.push(Arc::certain(alloc, NodeId(3), NodeId(4), Scale::ONE, Tick(1))?)?;
     arcs.push(Arc {
         tail: NodeId(1),
         head: NodeId(3),
@@ -68,10 +53,10 @@ fn fan(alloc: Global, nodes: u32) -> Result<Network, NoMemory>
     ensures { IfOk result (λ network. network.nodes ≡ nodes) }
 {
     let mut arcs = Vec::new(alloc);
-    arcs.push(certain_arc(alloc, 2, 1, 1)?)?;
+    arcs.push(Arc::certain(alloc, NodeId(2), NodeId(1), Scale::ONE, Tick(1))?)?;
     for node in 3..nodes + 1 {
-        arcs.push(certain_arc(alloc, 2, node, 1)?)?;
-        arcs.push(certain_arc(alloc, node, 1, 1)?)?;
+        arcs.push(Arc::certain(alloc, NodeId(2), NodeId(node), Scale::ONE, Tick(1))?)?;
+        arcs.push(Arc::certain(alloc, NodeId(node), NodeId(1), Scale::ONE, Tick(1))?)?;
     }
     Network::build(alloc, nodes, Scale::ONE, arcs)
 }

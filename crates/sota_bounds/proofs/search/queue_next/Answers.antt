@@ -1,48 +1,24 @@
-use Rattle.std.proofs.Common.{rules, ℕ, ◌≡◌, ◌-◌, ◌≤◌, Option, ◌∷◌, sym, ◌∙◌, ap, subst, arith, heap_items}
+use Rattle.std.proofs.Common.{rules, ℕ, ◌≡◌, ◌≤◌, Option, ◌∷◌, sym, ◌∙◌, ap, arith, heap_items}
 use Rattle.std.specs.Option.{option_and_then}
-use Rattle.std.proofs.lemmas.Option.{slice_get_within, get_or_from_slice_get}
 use Rattle.std.proofs.lemmas.List.Elements.{All-cons}
 use Rattle.std.proofs.lemmas.List.Sorted.{All-permutation}
 use Rattle.sota_network.specs.Network.{IsNode, arc_at}
-use Rattle.sota_network.specs.declared.network.Arc.{Arc}
 use Rattle.sota_bounds.specs.Search.{end_of, next_visit}
 use Rattle.sota_bounds.specs.declared.search.Visit.{Visit}
-use Rattle.sota_bounds.proofs.Numbered.{out-read, arc-place, end-valid}
+use Rattle.sota_bounds.proofs.Joined.{end-valid}
 use Rattle.sota_bounds.proofs.Queued.{queued-more, queued-same}
 use Rattle.sota_bounds.proofs.search.queue_next.Goals.{in-Some+in_ok-push, in_default}
 use Rattle.sota_bounds.proofs.search.queue_next.Goals as goal
 
-pub overflow_sub-arc : goal.overflow_sub-arc
-overflow_sub-arc c =
-    let out = out-read c.args.network.now c.args.direction c.args.visit.now.node c.arcs_at-number-items.result.now c.loop-number.number-index c.number-item.result c.arcs_at-number-items.ensures c.loop-number-test.true c.number-item.is in
-    omega (arith, out.low, c.get.ensures)
-
-pub bounds-arcs-get : goal.bounds-arcs-get
-bounds-arcs-get c =
-    let out = out-read c.args.network.now c.args.direction c.args.visit.now.node c.arcs_at-number-items.result.now c.loop-number.number-index c.number-item.result c.arcs_at-number-items.ensures c.loop-number-test.true c.number-item.is in
-    slice_get_within c.arcs-arcs.result.now (c.get.result - 1) out.arc
-    (arc-place c.args.network.now c.args.direction c.args.visit.now.node c.arcs-arcs.result.now c.get.result c.number-item.result out c.arcs-arcs.ensures.value c.get.ensures)
-
 pub next_visit-requires-clause-end : goal.next_visit-requires-clause-end
 next_visit-requires-clause-end c =
-    let out = out-read c.args.network.now c.args.direction c.args.visit.now.node c.arcs_at-number-items.result.now c.loop-number.number-index c.number-item.result c.arcs_at-number-items.ensures c.loop-number-test.true c.number-item.is in
-    let read : c.index-arcs-get.result ≡ out.arc =
-    c.index-arcs-get.is ∙ get_or_from_slice_get c.arcs-arcs.result.now (c.get.result - 1) out.arc c.index-arcs-get.result
-    (arc-place c.args.network.now c.args.direction c.args.visit.now.node c.arcs-arcs.result.now c.get.result c.number-item.result out c.arcs-arcs.ensures.value c.get.ensures) in
-    let node : IsNode c.args.network.now (end_of c.args.direction c.index-arcs-get.result) =
-    subst (λ (arc : Arc). IsNode c.args.network.now (end_of c.args.direction arc)) (sym read)
-    (end-valid c.args.network.now c.args.direction out.arc (c.arcs_by_number.ensures c.args.network.now c.number-item.result out.arc c.arcs-arcs.ensures.valid out.number)) in
+    let node : IsNode c.args.network.now (end_of c.args.direction c.numbered-arc.result.now) = end-valid c.args.network.now c.args.direction c.numbered-arc.result.now c.numbered-arc.ensures.valid in
     (node.0, omega (arith, node.1, c.requires.nodes))
 
 -- what is queued for the number that is looked at
 gives : (c : goal.Joined-next_visit) → option_and_then (next_visit c.args.direction c.args.dest c.args.visit.now c.args.times.now) (arc_at c.args.network.now c.number-item.result) ≡ c.next_visit.result
 gives c =
-    let out = out-read c.args.network.now c.args.direction c.args.visit.now.node c.arcs_at-number-items.result.now c.loop-number.number-index c.number-item.result c.arcs_at-number-items.ensures c.loop-number-test.true c.number-item.is in
-    let read : c.index-arcs-get.result ≡ out.arc =
-    c.index-arcs-get.is ∙ get_or_from_slice_get c.arcs-arcs.result.now (c.get.result - 1) out.arc c.index-arcs-get.result
-    (arc-place c.args.network.now c.args.direction c.args.visit.now.node c.arcs-arcs.result.now c.get.result c.number-item.result out c.arcs-arcs.ensures.value c.get.ensures) in
-    ap (option_and_then (next_visit c.args.direction c.args.dest c.args.visit.now c.args.times.now)) out.number
-    ∙ ap (next_visit c.args.direction c.args.dest c.args.visit.now c.args.times.now) (sym read) ∙ sym c.next_visit.ensures.value
+    ap (option_and_then (next_visit c.args.direction c.args.dest c.args.visit.now c.args.times.now)) c.numbered-arc.ensures.value ∙ sym c.next_visit.ensures.value
 
 pub loop-number-preserved : goal.loop-number-preserved
 loop-number-preserved c =
