@@ -159,6 +159,7 @@ impl Network {
         requires { IsNode self.now node }
         ensures value { result.now ≡ numbers (λ arc. arc.tail == node) 1 self.now.arcs }
         ensures within { All (λ e. (1 ≤ e) × (e ≤ length self.now.arcs)) result.now }
+        ensures valid { IsNet self.now }
     {
         self.leaving.of_node(node)
     }
@@ -168,6 +169,7 @@ impl Network {
         requires { IsNode self.now node }
         ensures value { result.now ≡ numbers (λ arc. arc.head == node) 1 self.now.arcs }
         ensures within { All (λ e. (1 ≤ e) × (e ≤ length self.now.arcs)) result.now }
+        ensures valid { IsNet self.now }
     {
         self.entering.of_node(node)
     }

@@ -1,4 +1,3 @@
-pub mod Numbered
 pub mod Reaching
 pub mod Turning
 pub mod Nexting

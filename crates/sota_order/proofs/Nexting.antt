@@ -123,6 +123,16 @@ module _ (net : Net) (arcs : Arcs net) (w : OrderView) (is : CanBeMet net w) (xs
       let end : v.end.0 ≡ end_of w v.node = turn.end in
       record { node = next-node; needed = next-needed; from = end; reach = reach; some = omega arith }
 
+-- the turn that was taken, and how far its node can be known next
+pub record IsTaken (net : Net) (w : OrderView) (xs ys : List Turn) (v : Turn) (to : ℕ) : Type 0 where
+  pub can : CanBeMet net w
+  pub arcs : Arcs net
+  pub moved : IsPermutation xs (v ∷ ys)
+  pub greatest : IsUpperBound by_end v xs
+  pub node : IsNode net v.node
+  pub reach : IsReach net w v.node to
+  pub more : end_of w v.node < to
+
 -- what is said of an answer Ok, where it is that
 pub ok-then : {X Y : Type 0} {P : Type 0} (r : Result X Y) → IsOk r → OnOk r P → P
 ok-then (Ok x) is said = said

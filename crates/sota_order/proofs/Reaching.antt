@@ -1,11 +1,11 @@
 -- A loop over the arcs that leave a node: how far it can be known.
-use Rattle.std.proofs.Common.{ℕ, zero, suc, ◌≡◌, ◌+◌, ◌<◌, ◌≤◌, ◌⊎◌, inl, inr, min, ◌==◌, List, [], ◌∷◌, length, get_or, Option, None, Some, refl, sym, ◌∙◌, ap, arith, ⊎_elim}
-use Rattle.std.proofs.lemmas.Bool.{cases_lt}
+use Rattle.std.proofs.Common.{ℕ, zero, suc, ◌≡◌, ◌+◌, ◌<◌, ◌≤◌, ◌⊎◌, inl, inr, min, ◌==◌, true, List, [], ◌∷◌, length, get_or, Option, None, Some, refl, sym, ◌∙◌, ap, arith, ⊎_elim}
+use Rattle.std.specs.List.{All, Contains}
+use Rattle.std.proofs.lemmas.Bool.{cases_lt, eqb-true, eq-eqb}
 use Rattle.sota_network.specs.Network.{Net, arc_at}
 use Rattle.sota_network.specs.Numbers.{numbers}
 use Rattle.sota_network.specs.declared.network.Arc.{Arc}
 use Rattle.sota_order.specs.Orders.{OrderView, IsReach, need_at, bound_of}
-use Rattle.sota_order.proofs.Numbered.{out-has}
 
 -- after the first k numbers, where each arc has a bound or none
 pub record Reached (net : Net) (bound : Arc → Option ℕ) (node needed : ℕ) (es : List ℕ) (k to : ℕ) : Type 0 where
@@ -23,6 +23,19 @@ the-arc h = cc
 
 the-bound : {x y : ℕ} → Some x ≡ Some y → x ≡ y
 the-bound h = cc
+
+-- the numbers of the arcs that leave a node
+abbrev pub numbers_at : Net → ℕ → List ℕ
+numbers_at net node = numbers (λ (arc : Arc). arc.tail == node) 1 net.arcs
+
+-- the arc that has one of them leaves the node
+pub leaves : (net : Net) (node : ℕ) (es : List ℕ) (k e : ℕ) (arc : Arc) → All (λ (n : ℕ). (a : Arc) × (arc_at net n ≡ Some a) × ((a.tail == node) ≡ true)) (numbers_at net node) → es ≡ numbers_at net node
+    → k < length es → e ≡ get_or es k e → arc_at net e ≡ Some arc → arc.tail ≡ node
+leaves net node es k e arc only same within is number =
+    let all : All (λ (n : ℕ). (a : Arc) × (arc_at net n ≡ Some a) × ((a.tail == node) ≡ true)) es = rw same only in
+    let out = all k e within in
+    let own : out.0 ≡ arc = the-arc (sym out.1 ∙ ap (arc_at net) (sym is) ∙ number) in
+    ap (λ (a : Arc). a.tail) (sym own) ∙ eqb-true out.0.tail node out.2
 
 -- what an arc leaves of a reach
 abbrev pub lessened : Option ℕ → ℕ → ℕ
@@ -74,15 +87,15 @@ module _ (net : Net) (bound : Arc → Option ℕ) (node needed : ℕ) (es : List
 
 -- after all of them
 pub reached-all : (net : Net) (dest : ℕ) (fronts bases : List ℕ) (node needed : ℕ) (es : List ℕ) (k to : ℕ) → Reached net (bound_of dest fronts bases) node needed es k to → length es ≤ k
-    → es ≡ numbers (λ (arc : Arc). arc.tail == node) 1 net.arcs → (w : OrderView) → w.dest ≡ dest → w.fronts ≡ fronts → w.bases ≡ bases → need_at w node ≡ needed → IsReach net w node to
-reached-all net dest fronts bases node needed es k to is all same w at-dest at-fronts at-bases at-need = record {
+    → es ≡ numbers_at net node → ((e : ℕ) (arc : Arc) → arc_at net e ≡ Some arc → (arc.tail == node) ≡ true → Contains (numbers_at net node) e)
+    → (w : OrderView) → w.dest ≡ dest → w.fronts ≡ fronts → w.bases ≡ bases → need_at w node ≡ needed → IsReach net w node to
+reached-all net dest fronts bases node needed es k to is all same every w at-dest at-fronts at-bases at-need = record {
   need = rw at-need is.need;
   arcs = λ e arc n number tail bounded.
-      let has = out-has net node e arc number tail in
-      let less : has.0 < k = (let h : has.0 < length (numbers (λ (a : Arc). a.tail == node) 1 net.arcs) = has.1 in let l : length es ≡ length (numbers (λ (a : Arc). a.tail == node) 1 net.arcs) = ap length same in omega arith) in
-      let read : arc_at net (get_or es has.0 e) ≡ Some arc = ap (λ (xs : List ℕ). arc_at net (get_or xs has.0 e)) same ∙ ap (arc_at net) has.2 ∙ number in
+      let has : Contains es e = rw same (every e arc number (eq-eqb arc.tail node tail)) in
+      let read : arc_at net (get_or es has.0 e) ≡ Some arc = ap (arc_at net) has.2 ∙ number in
       let here : bound_of dest fronts bases arc ≡ Some n = (rw (at-dest, at-fronts, at-bases) at bounded) in
-      is.arcs has.0 e less arc n read here;
+      is.arcs has.0 e (omega (arith, has.1)) arc n read here;
   attained =
       ⊎_elim
       (λ (h : to ≡ needed). inl (h ∙ sym at-need))

@@ -4,7 +4,7 @@ ghost use Rattle.sota_network.specs.Network.{IsNet};
 ghost use Rattle.sota_order.specs.Orders.{OrderView, CanBeMet, IsReach, IsNext, IsMet, bound_of};
 ghost use Rattle.sota_order.specs.Orders.{with_front};
 
-use sota_network::laws::arcs_by_number;
+use sota_network::laws::{arcs_by_number, numbers_of_arcs};
 use sota_network::{Arc, Network};
 use sota_units::{NoMemory, NodeId};
 use std::alloc::Global;
@@ -162,11 +162,10 @@ fn reach_of(
         → slice_index w.needs (node - 1) ≡ need → IsReach network.now w node result }
     ensures valid { IsNet network.now }
 {
-    arcs_by_number();
-    let arcs = network.arcs();
+    numbers_of_arcs();
     let mut to = need;
     for number in network.leaving(node) {
-        let arc = &arcs[number.get() as usize - 1];
+        let arc = network.numbered(*number);
         if let Some(bound) = bound_of(arc, dest, fronts, bases) {
             to = bound.min(u64::from(to)) as u32;
         }

@@ -2,26 +2,10 @@
 ghost use Rattle.std.specs.Prelude.{◌≡◌, ◌≤◌, ◌∷◌, [], IfOk};
 
 use crate::{Extent, Order};
-use sota_hist::Histogram;
 use sota_network::{Arc, Network};
 use sota_units::{NoMemory, NodeId, Scale, Tick};
 use std::alloc::Global;
 use std::test::Fail;
-
-/// An arc that takes the same time always.
-fn certain_arc(alloc: Global, tail: u32, head: u32, tick: u32) -> Result<Arc, NoMemory>
-    requires { 1 ≤ tick }
-    ensures tail { IfOk result (λ arc. arc.tail ≡ tail) }
-    ensures head { IfOk result (λ arc. arc.head ≡ head) }
-    ensures time { IfOk result (λ arc. arc.time ≡ (tick, 1) ∷ []) }
-{
-    let time = Histogram::certain(alloc, Scale::ONE, Tick(tick))?;
-    Ok(Arc {
-        tail: NodeId(tail),
-        head: NodeId(head),
-        time,
-    })
-}
 
 /// From 1 to 3 by way of 2 in one tick and one more, or straight in three.
 fn three_roads(alloc: Global) -> Result<Network, NoMemory>
@@ -35,9 +19,9 @@ fn three_roads(alloc: Global) -> Result<Network, NoMemory>
     }) }
 {
     let mut arcs = Vec::new(alloc);
-    arcs.push(certain_arc(alloc, 1, 2, 1)?)?;
-    arcs.push(certain_arc(alloc, 2, 3, 1)?)?;
-    arcs.push(certain_arc(alloc, 1, 3, 3)?)?;
+    arcs.push(Arc::certain(alloc, NodeId(1), NodeId(2), Scale::ONE, Tick(1))?)?;
+    arcs.push(Arc::certain(alloc, NodeId(2), NodeId(3), Scale::ONE, Tick(1))?)?;
+    arcs.push(Arc::certain(alloc, NodeId(1), NodeId(3), Scale::ONE, Tick(3))?)?;
     Network::build(alloc, 3, Scale::ONE, arcs)
 }
 
