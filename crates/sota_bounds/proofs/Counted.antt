@@ -83,7 +83,7 @@ module _ (net : Net) (origin dest last : ℕ) (least from : List (Option ℕ)) (
     kept-at i node =
         ap (λ (ns : List ℕ). need_at ns i) kept_is ∙ is.entry (need_by_times dest last least from) (length least) i 0 node.0 (omega (arith, node.1, is.nodes))
 
-    pairs-is : (i : ℕ) → IsNode net i → pairs_by_lists least kept i ≡ pairs_at net origin dest last i
+    pub pairs-is : (i : ℕ) → IsNode net i → pairs_by_lists least kept i ≡ pairs_at net origin dest last i
     pairs-is i node =
         ap (pairs_by_need (time_at least i)) (kept-at i node)
         ∙ ⊎_elim

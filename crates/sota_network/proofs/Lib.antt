@@ -17,5 +17,6 @@ pub mod Replaced
 pub mod Reaching
 pub mod Below
 pub mod Cells
+pub mod Reached
 pub mod Walking
 pub mod Reading

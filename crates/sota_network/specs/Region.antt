@@ -1,11 +1,12 @@
 -- How large the region of an ask is: `origin` to `dest` with the budget `last`.
-use Rattle.std.specs.Prelude.{ℕ, suc, ◌+◌, ◌-◌, ◌&&◌, nat_le, nat_lt, List, length, map}
+use Rattle.std.specs.Prelude.{ℕ, suc, ◌≢◌, ◌≤◌, ◌+◌, ◌-◌, ◌&&◌, nat_le, nat_lt, List, length, map}
 use Rattle.std.specs.Prelude.{Bool, false, Option, Some, if◌then◌else◌}
 use Rattle.std.specs.List.{count_by, filter, range_with_len, sum, sum_by}
 use Rattle.sota_hist.specs.Time.{within, least_tick, greatest_tick}
-use Rattle.sota_network.specs.Network.{Net}
+use Rattle.sota_network.specs.Network.{Net, IsNode}
 use Rattle.sota_network.specs.Numbers.{listed}
 use Rattle.sota_network.specs.Grid.{greatest}
+use Rattle.sota_network.specs.Walks.{IsLeastTime}
 use Rattle.sota_network.specs.Reach.{in_region}
 use Rattle.sota_network.specs.declared.network.Arc.{Arc}
 
@@ -47,6 +48,17 @@ broad_at last pairs arc =
 abbrev pub broad_cells : Net → ℕ → ℕ → ℕ → ℕ
 broad_cells net origin dest last =
     sum_by (λ arc. broad_at last (pairs_at net origin dest last arc.tail) arc) net.arcs
+
+-- a node with a pair in the region is no destination, and both its least times are numbers: they
+-- leave it a budget
+pub record HasLeastTimes (net : Net) (origin dest last i : ℕ) : Type 0 where
+  pub node : IsNode net i
+  pub elsewhere : i ≢ dest
+  pub to : ℕ
+  pub onward : IsLeastTime net dest i dest (Some to)
+  pub from : ℕ
+  pub came : IsLeastTime net dest origin i (Some from)
+  pub within : to + from ≤ last
 
 -- ---- the same by the least times of a node: `to` the destination and `from` the origin.
 -- `region_by_least_times` says so

@@ -16,7 +16,7 @@ ghost use Rattle.sota_network.specs.Walks.{Walk, IsLeastTime};
 ghost use Rattle.sota_network.specs.Reach.{reaches, in_region};
 ghost use Rattle.sota_network.specs.Reads.{Reads};
 ghost use Rattle.sota_network.specs.Region.{pairs_at, need, table_cells, broad_cells};
-ghost use Rattle.sota_network.specs.Region.{is_between, pairs_between, need_between};
+ghost use Rattle.sota_network.specs.Region.{is_between, pairs_between, need_between, HasLeastTimes};
 ghost use Rattle.sota_network.specs.Examples.{triangle, chain, chain_tree, fork, late_route};
 ghost use Rattle.sota_network.specs.Examples.{certain_route, twins, bridge, barrier};
 
@@ -129,6 +129,14 @@ pub fn region_by_least_times()
     ensures dest_pairs { (net : Net) (origin dest last : ℕ)
         → pairs_at net origin dest last dest ≡ 0 }
     ensures dest_need { (net : Net) (origin dest last : ℕ) → need net origin dest last dest ≡ 0 }
+{}
+
+/// A node with a pair in the region of an ask has both least times.
+pub fn regions_have_least_times()
+    ensures inside { (net : Net) (origin dest last i t : ℕ) → IsNet net
+        → in_region net origin dest last i t ≡ true → HasLeastTimes net origin dest last i }
+    ensures counted { (net : Net) (origin dest last i : ℕ) → IsNet net
+        → 1 ≤ pairs_at net origin dest last i → HasLeastTimes net origin dest last i }
 {}
 
 /// An entry of the grid is made of the entries that it reads, out of any table that has these.

@@ -3,8 +3,8 @@ use Rattle.sota_network.specs.Network.{IsNode}
 use Rattle.sota_network.specs.Walks.{IsLeastTime}
 use Rattle.sota_network.specs.Numbers.{listed}
 use Rattle.sota_bounds.specs.Search.{time_at}
-use Rattle.sota_bounds.specs.Cells.{need_by_times, table_cells_by_lists, broad_cells_by_lists}
-use Rattle.sota_bounds.proofs.Counted.{IsAsked, needs-are, table-is, broad-is}
+use Rattle.sota_bounds.specs.Cells.{need_by_times, pairs_by_lists, table_cells_by_lists, broad_cells_by_lists}
+use Rattle.sota_bounds.proofs.Counted.{IsAsked, needs-are, pairs-is, table-is, broad-is}
 use Rattle.sota_bounds.proofs.ask.whole_region.Goals as goal
 
 -- the least times, and the law of the region at them
@@ -32,6 +32,10 @@ returns c = record {
   nodes = ap length c.new.ensures ∙ c.in_ok-least.ensures.nodes;
   least = subst (λ (times : List (Option ℕ)). (i : ℕ) → IsNode c.args.network.now i → IsLeastTime c.args.network.now c.args.dest i c.args.dest (time_at times i)) (sym c.new.ensures) c.in_ok-least.ensures.least;
   need = c.new-2.ensures ∙ kept c ∙ needs-are c.args.network.now c.args.origin c.args.dest c.args.budget c.in_ok-least.least.items c.in_ok-from.from.items (asked c);
+  pairs = λ i node.
+      sym (ap (λ (least : List (Option ℕ)). pairs_by_lists least c.new-2.result i) c.new.ensures
+      ∙ ap (λ (needs : List ℕ). pairs_by_lists c.in_ok-least.least.items needs i) c.new-2.ensures
+      ∙ pairs-is c.args.network.now c.args.origin c.args.dest c.args.budget c.in_ok-least.least.items c.in_ok-from.from.items (asked c) c.in_ok-need.need.items (kept c) i node);
   table_cells = c.table_cells_of-table_cells.ensures
       ∙ ap (λ (least : List (Option ℕ)). table_cells_by_lists least c.deref-4.result.now (length least)) c.deref-3.ensures.value
       ∙ ap (λ (needs : List ℕ). table_cells_by_lists c.in_ok-least.least.items needs (length c.in_ok-least.least.items)) c.deref-4.ensures.value
