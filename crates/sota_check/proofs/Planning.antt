@@ -1,17 +1,16 @@
 -- The planner's own policy holds.
-use Rattle.std.proofs.Common.{ℕ, suc, ◌≡◌, ◌≢◌, ◌+◌, ◌-◌, ◌*◌, ◌<◌, ◌≤◌, ◌⊎◌, inl, inr, Bool, true, false, not, ◌&&◌, ◌==◌, nat_le, Option, Some, None, unwrap_or, refl, sym, ◌∙◌, ap, arith, ⊎_elim, subst, length, slice_get}
-use Rattle.std.proofs.lemmas.Bool.{cases_eq, cases_lt, cases_Bool, eqb-false, eqb-true, and_parts, not-true, true≢false, eq-eqb, ne_eqb, le-leb, and_from, leb-true}
+use Rattle.std.proofs.Common.{ℕ, ◌≡◌, ◌≢◌, ◌+◌, ◌-◌, ◌*◌, ◌<◌, ◌≤◌, ◌⊎◌, inl, inr, Bool, true, false, not, ◌&&◌, ◌==◌, nat_le, Option, Some, None, unwrap_or, refl, sym, ◌∙◌, ap, arith, ⊎_elim, subst, length, slice_get}
+use Rattle.std.proofs.lemmas.Bool.{cases_eq, cases_Bool, eqb-false, and_parts, not-true, true≢false, eq-eqb, ne_eqb, le-leb, and_from, leb-true}
 use Rattle.std.proofs.lemmas.Option.{slice_get_cases, slice_get_within}
 use Rattle.std.proofs.Math.Nat.{div-mul-le_self, zero-div}
 use Rattle.sota_units.specs.Rounding.{floor_by}
 use Rattle.sota_network.specs.Network.{Net, arc_at}
-use Rattle.sota_network.specs.Grid.{plain_sum, best_sum, value_from, lo, hi, choice, choice_of}
+use Rattle.sota_network.specs.Grid.{plain_sum, best_of, best_sum, value_from, lo, hi, choice, choice_of, IsFirstBest}
 use Rattle.sota_network.specs.Walks.{Walk, empty, IsLeastTime}
 use Rattle.sota_network.specs.Reach.{reaches, in_region}
 use Rattle.sota_network.specs.Reads.{Reads}
 use Rattle.sota_network.specs.Region.{is_between}
 use Rattle.sota_network.specs.declared.network.Arc.{Arc}
-use Rattle.sota_network.proofs.Best.{best-attained, first-finds}
 use Rattle.sota_polfile.specs.declared.entry.PolicyEntry.{PolicyEntry}
 use Rattle.sota_polfile.specs.declared.row.PolicyRow.{PolicyRow}
 use Rattle.sota_polfile.specs.declared.head.PolicyHead.{PolicyHead}
@@ -29,27 +28,9 @@ pub record IsGrid (net : Net) (origin dest last : ℕ) : Type 0 where
   pub reach : (i j t n : ℕ) → Walk net dest i j n → n ≤ t → reaches net dest j i t ≡ true
   pub made : (i t : ℕ) (table : ℕ → ℕ → ℕ) → i ≢ dest → ((j u : ℕ) → Reads net i t j u → table j u ≡ lo net dest j u) → lo net dest i t ≡ floor_by net.scale (best_sum net table i t)
   pub chosen : (i t : ℕ) (table : ℕ → ℕ → ℕ) → i ≢ dest → ((j u : ℕ) → Reads net i t j u → table j u ≡ lo net dest j u) → choice net dest i t ≡ choice_of net.arcs (λ arc. plain_sum arc table t) i
+  pub none : (worth : Arc → ℕ) (i : ℕ) → choice_of net.arcs worth i ≡ None → best_of net.arcs worth i ≡ 0
+  pub first : (worth : Arc → ℕ) (i e : ℕ) → choice_of net.arcs worth i ≡ Some e → IsFirstBest net worth i e
   pub closed : (i t j u : ℕ) → in_region net origin dest last i t ≡ true → Reads net i t j u → (j ≡ dest) ⊎ ((in_region net origin dest last j u ≡ true) ⊎ (reaches net dest dest j u ≡ false))
-
--- what is chosen among the arcs of a node by any values at their heads
-module _ (net : Net) (f : ℕ → ℕ → ℕ) (i t : ℕ) where
-  chosen-none : best_sum net f i t ≡ 0 → choice_of net.arcs (λ (b : Arc). plain_sum b f t) i ≡ None
-  chosen-none h = rw (eq-eqb _ 0 h) refl
-
-  chosen-best : 0 < best_sum net f i t
-      → (e : ℕ) × (a : Arc) × (choice_of net.arcs (λ (b : Arc). plain_sum b f t) i ≡ Some e) × (arc_at net e ≡ Some a) × (a.tail ≡ i) × (plain_sum a f t ≡ best_sum net f i t)
-  chosen-best h =
-      let found = best-attained (λ b. plain_sum b f t) i net.arcs h in
-      let k = found.0 in
-      let a = found.1 in
-      let test : Arc → Bool = λ b. (b.tail == i) && (plain_sum b f t == best_sum net f i t) in
-      let passes : test a ≡ true = and_from (a.tail == i) (plain_sum a f t == best_sum net f i t) (eq-eqb a.tail i found.3) (eq-eqb _ _ found.4) in
-      let first = first-finds test 1 k a net.arcs found.2 passes in
-      let b = first.1 in
-      let parts = and_parts (b.tail == i) (plain_sum b f t == best_sum net f i t) first.4 in
-      let number : 1 + first.0 ≡ suc first.0 = omega arith in
-      let ne : best_sum net f i t ≡ 0 → ⊥ = λ z. omega arith in
-      (suc first.0, b, rw (ne_eqb _ 0 ne) (first.2 ∙ ap Some number), first.3, eqb-true _ _ parts.0, eqb-true _ _ parts.1)
 
 module _ (net : Net) (origin dest last : ℕ) (table : Table) (grid : IsGrid net origin dest last) (plan : IsPlanned net origin dest last table) where
   dest-is : table.head.dest ≡ dest
@@ -96,23 +77,27 @@ module _ (net : Net) (origin dest last : ℕ) (table : Table) (grid : IsGrid net
   reads-same : (i t : ℕ) → in_region net origin dest last i t ≡ true → (j u : ℕ) → Reads net i t j u → value table j u ≡ lo net dest j u
   reads-same i t inside j u reads = read-same j u (grid.closed i t j u inside reads)
 
-  holds-inside : (i t : ℕ) → in_region net origin dest last i t ≡ true → Holds net table i t (grid_entry net dest i t)
-  holds-inside i t inside =
+  -- the arc of an entry is the planner's choice by the values of the policy
+  holds-by : (i t : ℕ) → in_region net origin dest last i t ≡ true → (o : Option ℕ) → choice_of net.arcs (λ arc. plain_sum arc (value table) t) i ≡ o → Holds net table i t (grid_entry net dest i t)
+  holds-by i t inside (Some e) is =
       let off : i ≢ dest = (region-parts i t inside).0 in
       let sum : ℕ = best_sum net (value table) i t in
-      let is : lo net dest i t ≡ floor_by net.scale sum = grid.made i t (value table) off (reads-same i t inside) in
-      let chosen = grid.chosen i t (value table) off (reads-same i t inside) in
-      ⊎_elim
-      (λ (positive : 0 < sum).
-      let found = chosen-best net (value table) i t positive in
-      let number : unwrap_or (choice net dest i t) 0 ≡ found.0 = ap (λ (o : Option ℕ). unwrap_or o 0) (chosen ∙ found.2) in
+      let lower : lo net dest i t ≡ floor_by net.scale sum = grid.made i t (value table) off (reads-same i t inside) in
+      let best : IsFirstBest net (λ arc. plain_sum arc (value table) t) i e = grid.first (λ arc. plain_sum arc (value table) t) i e is in
+      let number : unwrap_or (choice net dest i t) 0 ≡ e = ap (λ (o : Option ℕ). unwrap_or o 0) (grid.chosen i t (value table) off (reads-same i t inside) ∙ is) in
       let below : floor_by net.scale sum * net.scale ≤ sum = div-mul-le_self sum net.scale in
-      inr (found.1, ap (arc_at net) number ∙ found.3, found.4, (rw (found.5, is) below)))
-      (λ (nothing : sum ≤ 0).
-      let zero-sum : sum ≡ 0 = omega arith in
-      let none : choice net dest i t ≡ None = chosen ∙ chosen-none net (value table) i t zero-sum in
-      inl (ap (λ (o : Option ℕ). unwrap_or o 0) none, is ∙ ap (floor_by net.scale) zero-sum ∙ zero-div net.scale))
-      (cases_lt 0 sum)
+      inr (best.arc, ap (arc_at net) number ∙ best.number, best.tail, (rw (best.greatest, lower) below))
+  holds-by i t inside None is =
+      let off : i ≢ dest = (region-parts i t inside).0 in
+      let nothing : best_sum net (value table) i t ≡ 0 = grid.none (λ arc. plain_sum arc (value table) t) i is in
+      let none : choice net dest i t ≡ None = grid.chosen i t (value table) off (reads-same i t inside) ∙ is in
+      inl (
+        ap (λ (o : Option ℕ). unwrap_or o 0) none,
+        grid.made i t (value table) off (reads-same i t inside) ∙ ap (floor_by net.scale) nothing ∙ zero-div net.scale,
+      )
+
+  holds-inside : (i t : ℕ) → in_region net origin dest last i t ≡ true → Holds net table i t (grid_entry net dest i t)
+  holds-inside i t inside = holds-by i t inside (choice_of net.arcs (λ arc. plain_sum arc (value table) t) i) refl
 
   entry-holds : (i t : ℕ) (entry : PolicyEntry) → (b : Bool) → in_region net origin dest last i t ≡ b → entry_if b (grid_entry net dest i t) ≡ Some entry → Holds net table i t entry
   entry-holds i t entry true inside at =

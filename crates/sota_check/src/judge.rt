@@ -10,7 +10,7 @@ ghost use Rattle.sota_check.specs.Rejected.{entry_fault, entries_fault, rows_fau
 use crate::sums::{arc_sum, needed};
 use crate::{Certified, Rejection};
 use sota_network::Network;
-use sota_network::laws::{arcs_by_number, grid_encloses, sound_values};
+use sota_network::laws::{grid_encloses, sound_values};
 use sota_polfile::{PolicyEntry, PolicyRow, PolicyTable, entries_stand_in_rows};
 use sota_units::{ArcId, Grain, NodeId};
 
@@ -126,7 +126,6 @@ fn entry_fault(
 ) -> Option<Rejection>
     ensures { result ≡ entry_fault network.now (value table.now) node budget entry }
 {
-    arcs_by_number();
     if entry.arc == 0 {
         return if entry.value == 0 {
             None

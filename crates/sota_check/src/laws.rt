@@ -14,8 +14,8 @@ ghost use Rattle.sota_check.specs.declared.verdict.Rejection.TheVariants.{Value}
 ghost use Rattle.sota_check.specs.Planned.{IsPlanned, AreGridRows, IsPlanFile, ask_head};
 
 use sota_network::laws::{
-    entries_of_reads, grid_encloses, grid_recurs, reaches_by_walks, region_by_least_times,
-    region_closes, sound_values,
+    choices_by_worth, entries_of_reads, grid_encloses, grid_recurs, reaches_by_walks,
+    region_by_least_times, region_closes, sound_values,
 };
 use sota_polfile::entries_stand_in_rows;
 
@@ -54,6 +54,7 @@ pub fn plans_hold()
     grid_encloses();
     reaches_by_walks();
     entries_of_reads();
+    choices_by_worth();
     region_closes();
 }
 

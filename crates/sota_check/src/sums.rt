@@ -22,7 +22,7 @@ pub(crate) fn arc_sum(table: &PolicyTable, arc: &Arc, budget: u32, near: &mut us
     if head == table.head().dest {
         return whole_sum(pairs);
     }
-    match row_near(table.rows(), head, near) {
+    match row_near(table, head, near) {
         Some(row) => row_sum(row, pairs, budget),
         None => 0,
     }

@@ -1,5 +1,7 @@
 // Policy files and tables are one to one, and no part of a file from its front on is a file.
-ghost use Rattle.std.specs.Prelude.{◌≡◌, ◌≢◌, ◌+◌, ◌<◌, ℕ, List, All, slice_get, take, Some, Ok};
+ghost use Rattle.std.specs.Prelude.{◌≡◌, ◌≢◌, ◌==◌, ◌+◌, ◌-◌, ◌<◌, ◌≤◌, ℕ, List, All, length};
+ghost use Rattle.std.specs.Prelude.{slice_get, take, Some, None, Ok};
+ghost use Rattle.std.specs.List.{find};
 ghost use Rattle.sota_polfile.specs.Table.{Table, IsTable, entry_of};
 ghost use Rattle.sota_polfile.specs.declared.entry.PolicyEntry.{PolicyEntry};
 ghost use Rattle.sota_polfile.specs.declared.row.PolicyRow.{PolicyRow};
@@ -17,6 +19,18 @@ pub fn entries_stand_in_rows()
     ensures only { (table : Table) (i t : ℕ) (entry : PolicyEntry) → entry_of table i t ≡ Some entry
         → (k : ℕ) × (row : PolicyRow) × (j : ℕ) × (slice_get table.rows k ≡ Some row)
         × (row.node ≡ i) × (t ≡ row.first + j) × (slice_get row.entries j ≡ Some entry) }
+{}
+
+/// A row is found by its node. No row has a node that is greater than that of the row before a
+/// place and less than that of the row at it.
+pub fn rows_by_node()
+    ensures found { (table : Table) (k : ℕ) (row : PolicyRow) → IsTable table
+        → slice_get table.rows k ≡ Some row
+        → find (λ other. other.node == row.node) table.rows ≡ Some row }
+    ensures absent { (table : Table) (k node : ℕ) → IsTable table → k ≤ length table.rows
+        → ((row : PolicyRow) → 1 ≤ k → slice_get table.rows (k - 1) ≡ Some row → row.node < node)
+        → ((row : PolicyRow) → slice_get table.rows k ≡ Some row → node < row.node)
+        → find (λ row. row.node == node) table.rows ≡ None }
 {}
 
 /// Each table is what its spelling means, so tables differ in their files; and bytes that mean a
@@ -37,7 +51,8 @@ pub fn cut_fault(table: &PolicyTable, length: u64) -> PolicyFault
     ensures no_file { (other : Table) → IsTable other
         → take length (spelling table.now) ≢ spelling other }
 {
-    let _head = table.head();
+    // A check knows what holds of every table once this one is read.
+    prove!(table.head().nodes >= 1);
     cut(length)
 }
 

@@ -15,7 +15,7 @@ mod writing;
 pub use entry::{PolicyEntries, PolicyEntry};
 pub use fault::PolicyFault;
 pub use head::PolicyHead;
-pub use laws::{cut_fault, entries_stand_in_rows, one_to_one};
+pub use laws::{cut_fault, entries_stand_in_rows, one_to_one, rows_by_node};
 pub use reading::read_policy;
 pub use row::PolicyRow;
 pub use table::PolicyTable;

@@ -1,10 +1,11 @@
 // A policy in memory.
-ghost use Rattle.std.specs.Prelude.{◌≡◌, ◌==◌, ◌*◌, ◌<◌, ◌≤◌, ◌↔◌, All, length, slice_get, map};
+ghost use Rattle.std.specs.Prelude.{ℕ, ◌≡◌, ◌==◌, ◌*◌, ◌<◌, ◌≤◌, ◌↔◌, All, length, slice_get, map};
 ghost use Rattle.std.specs.Prelude.{IsOk, IfOk, IfErr, OnErr, IfNone, None, Some};
 ghost use Rattle.std.specs.Option.{option_copied};
 ghost use Rattle.std.specs.List.{find};
 ghost use Rattle.std.specs.List.Sorted.{IsStrictlyIncreasing};
 ghost use Rattle.sota_polfile.specs.Entry.{IsEntry};
+ghost use Rattle.sota_polfile.specs.declared.row.PolicyRow.{PolicyRow};
 ghost use Rattle.sota_polfile.specs.Table.{Table, IsHead, IsTable, row_head, nodes, cells};
 ghost use Rattle.sota_polfile.specs.Table.{entry_of};
 ghost use Rattle.sota_polfile.specs.Faults.{rows_fault, parts_fault};
@@ -104,23 +105,26 @@ impl PolicyTable {
         self.row(node).and_then(|row| row.entry(budget))
     }
 
+    /// The place of the row of a node, or else where such a row would stand.
+    pub fn place(&self, node: u32) -> Result<usize, usize>
+        ensures within { IfOk result (λ place. place < length self.now.rows) }
+        ensures found { IfOk result (λ place. find (λ row. row.node == node) self.now.rows
+            ≡ slice_get self.now.rows place) }
+        ensures absent { OnErr result (find (λ row. row.node == node) self.now.rows ≡ None) }
+        ensures between { IfErr result (λ place. (k : ℕ) (row : PolicyRow)
+            → slice_get self.now.rows k ≡ Some row
+            → (k < place → row.node < node) × (place ≤ k → node < row.node)) }
+        ensures end { IfErr result (λ place. place ≤ length self.now.rows) }
+    {
+        self.rows().binary_search_by_key(&node, |row| row.node)
+    }
+
     fn row(&self, node: u32) -> Option<&PolicyRow>
         ensures { option_copied result ≡ find (λ row. row.node == node) self.now.rows }
     {
-        match place(&self.rows, node) {
+        match self.place(node) {
             Ok(place) => Some(&self.rows[place]),
             Err(_) => None,
         }
     }
-}
-
-/// The place of the row of a node among rows in rising nodes, or else where such a row would stand.
-fn place(rows: &[PolicyRow], node: u32) -> Result<usize, usize>
-    requires { IsStrictlyIncreasing (nodes rows.now) }
-    ensures within { IfOk result (λ place. place < length rows.now) }
-    ensures found { IfOk result (λ place. find (λ row. row.node == node) rows.now
-        ≡ slice_get rows.now place) }
-    ensures absent { OnErr result (find (λ row. row.node == node) rows.now ≡ None) }
-{
-    rows.binary_search_by_key(&node, |row| row.node)
 }

@@ -159,6 +159,10 @@ fn entries_are_found(rt: HostRuntime) -> Result<(), Fail> {
             .map(|entry| (entry.arc, entry.value));
         assert_eq!(rt; entry, found, "at {node} {budget}");
     }
+    let places = [(0, Err(0)), (1, Ok(0)), (2, Ok(1)), (3, Err(2))];
+    for (node, place) in places {
+        assert_eq!(rt; table.place(node), place);
+    }
     for row in table.rows() {
         assert_eq!(rt; row.entries.as_slice().len(), 2);
         assert!(rt; !row.entries.is_empty());

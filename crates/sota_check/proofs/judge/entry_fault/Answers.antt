@@ -19,8 +19,7 @@ returns-then-get-node c =
 
 pub arc_sum-requires : goal.arc_sum-requires
 arc_sum-requires c =
-    let is : arc_at c.args.network.now c.args.entry.arc ≡ Some c.in-Some.arc.now = sym c.in-Some.ensures.value in
-    let valid : IsArc c.args.network.now c.in-Some.arc.now = c.arcs_by_number.ensures c.args.network.now c.args.entry.arc c.in-Some.arc.now c.scale.ensures.valid is in
+    let valid : IsArc c.args.network.now c.in-Some.arc.now = c.in-Some.ensures.found in
     omega (arith, valid.total, c.needed-needed.ensures.limit, c.scale.ensures.value)
 
 pub returns-then-arc_sum-needed : goal.returns-then-arc_sum-needed

@@ -5,7 +5,7 @@ use Rattle.sota_polfile.proofs.laws.cut_fault.Goals as goal
 
 pub returns-clause-first : goal.returns-clause-first
 returns-clause-first c =
-    cut_first c.args.table.now c.head-head.ensures.valid c.args.length c.requires ∙ ap (λ (fault : PolicyFault). Some fault) (sym c.cut.ensures)
+    cut_first c.args.table.now c.head.ensures.valid c.args.length c.requires ∙ ap (λ (fault : PolicyFault). Some fault) (sym c.cut.ensures)
 
 pub returns-clause-no_file : goal.returns-clause-no_file
-returns-clause-no_file c = λ other is same. cut_no_file c.args.table.now c.head-head.ensures.valid other is c.args.length c.requires same
+returns-clause-no_file c = λ other is same. cut_no_file c.args.table.now c.head.ensures.valid other is c.args.length c.requires same
