@@ -1,4 +1,4 @@
-use Rattle.std.proofs.Common.{Ok, ap, sym, ◌∙◌, arith}
+use Rattle.std.proofs.Common.{◌≡◌, Ok, ap, sym, ◌∙◌, arith}
 use Rattle.std.proofs.lemmas.Result.{err_from_is_err_and}
 use Rattle.std.proofs.lemmas.List.Sorted.{All-permutation}
 use Rattle.sota_histcsv.specs.Words.{is_shortage}
@@ -6,71 +6,63 @@ use Rattle.sota_histcsv.specs.Histograms.{timed}
 use Rattle.sota_histcsv.specs.Kept.{IsKept, contents_in}
 use Rattle.sota_histcsv.proofs.Keeping.{unless_more}
 use Rattle.sota_histcsv.proofs.Moved.{timed_moved}
-use Rattle.sota_histcsv.proofs.Whole.{is_read, are_arcs, net_refused, net_read}
+use Rattle.sota_histcsv.proofs.Whole.{IsRead, AreArcs, is_read, are_arcs, net_refused, net_read}
+use Rattle.sota_histcsv.proofs.histograms.read_histograms.Goals.{In_ok-table, After-as_slice-2, In_ok-arcs}
 use Rattle.sota_histcsv.proofs.histograms.read_histograms.Goals as goal
+
+-- the table that was read
+read : (c : In_ok-table) → IsRead c.args.bytes.now c.args.graph c.in_ok-table.table
+read c =
+    is_read c.args.bytes.now c.without_mark-text.result.now c.as_slice.result.now c.args.graph c.in_ok-table.table
+    c.without_mark-text.ensures c.as_slice.ensures c.in_ok-table.ensures.holds
+
+-- the arcs that are timed by its moved entries are those of the text
+same : (c : After-as_slice-2) → (is : IsRead c.args.bytes.now c.args.graph c.in_ok-table.table)
+    → timed is.known c.args.graph.arcs ≡ timed (contents_in c.in_ok-table.table) c.as_slice-2.result.now
+same c is =
+    sym (timed_moved c.order_of_pairs.ensures.valid c.order_of_pairs.ensures.sums c.order_of_pairs.ensures.known
+    c.in_ok-table.table is.known is.holds is.are.kept c.args.graph.arcs)
+    ∙ ap (timed (contents_in c.in_ok-table.table)) (sym c.as_slice-2.ensures)
 
 pub timed_arcs-requires-clause-each : goal.timed_arcs-requires-clause-each
 timed_arcs-requires-clause-each c =
-    let read =
-    is_read c.args.bytes.now c.without_mark-text.result.now c.as_slice.result.now c.args.graph c.in_ok-table.table
-    c.without_mark-text.ensures c.as_slice.ensures c.in_ok-table.ensures.holds in
-    All-permutation IsKept read.known.entries c.in_ok-table.table.entries.items read.holds.moved read.are.kept.each
+    let is = read (goal.at.timed_arcs-requires-clause-each c).In_ok-table in
+    All-permutation IsKept is.known.entries c.in_ok-table.table.entries.items is.holds.moved is.are.kept.each
 
 pub returns-in_err-arcs : goal.returns-in_err-arcs
 returns-in_err-arcs c =
-    let read =
-    is_read c.args.bytes.now c.without_mark-text.result.now c.as_slice.result.now c.args.graph c.in_ok-table.table
-    c.without_mark-text.ensures c.as_slice.ensures c.in_ok-table.ensures.holds in
-    let moved =
-    ap (timed (contents_in c.in_ok-table.table)) (sym c.as_slice-2.ensures) in
-    let same =
-    timed_moved c.order_of_pairs.ensures.valid c.order_of_pairs.ensures.sums c.order_of_pairs.ensures.known
-    c.in_ok-table.table read.known read.holds read.are.kept c.args.graph.arcs in
+    let is = read (goal.at.returns-in_err-arcs c).In_ok-table in
     let p = err_from_is_err_and c.from_residual-in_err-arcs.result c.from_residual-in_err-arcs.ensures.1 in
     rw (p.1, p.2)
     (unless_more (is_shortage c.in_err-arcs.field-0.0)
-    (λ e. net_refused c.args.bytes.now c.without_mark-text.result.now c.args.graph read.known c.in_err-arcs.field-0.0
-    c.without_mark-text.ensures (sym c.is_marked.ensures ∙ c.if-is_marked.false) read.is (sym same ∙ moved ∙ e))
+    (λ e. net_refused c.args.bytes.now c.without_mark-text.result.now c.args.graph is.known c.in_err-arcs.field-0.0
+    c.without_mark-text.ensures (sym c.is_marked.ensures ∙ c.if-is_marked.false) is.is
+    (same (goal.at.returns-in_err-arcs c).After-as_slice-2 is ∙ e))
     c.in_err-arcs.ensures)
+
+-- the arcs make a network
+made : (c : In_ok-arcs) → (is : IsRead c.args.bytes.now c.args.graph c.in_ok-table.table)
+    → timed is.known c.args.graph.arcs ≡ timed (contents_in c.in_ok-table.table) c.as_slice-2.result.now
+    → AreArcs c.args.graph is.known c.in_ok-arcs.arcs.items
+made c is moved =
+    are_arcs c.order_of_pairs.ensures.valid c.order_of_pairs.ensures.sums c.args.graph is.known
+    c.in_ok-arcs.arcs.items c.requires.graph is.are (moved ∙ c.in_ok-arcs.ensures)
 
 pub build-requires-clause-arcs : goal.build-requires-clause-arcs
 build-requires-clause-arcs c =
-    let read =
-    is_read c.args.bytes.now c.without_mark-text.result.now c.as_slice.result.now c.args.graph c.in_ok-table.table
-    c.without_mark-text.ensures c.as_slice.ensures c.in_ok-table.ensures.holds in
-    let moved =
-    ap (timed (contents_in c.in_ok-table.table)) (sym c.as_slice-2.ensures) in
-    let same =
-    timed_moved c.order_of_pairs.ensures.valid c.order_of_pairs.ensures.sums c.order_of_pairs.ensures.known
-    c.in_ok-table.table read.known read.holds read.are.kept c.args.graph.arcs in
-    let are = are_arcs c.order_of_pairs.ensures.valid c.order_of_pairs.ensures.sums c.args.graph read.known
-    c.in_ok-arcs.arcs.items c.requires.graph read.are (sym same ∙ moved ∙ c.in_ok-arcs.ensures) in
+    let is = read (goal.at.build-requires-clause-arcs c).In_ok-table in
+    let are = made (goal.at.build-requires-clause-arcs c).In_ok-arcs is (same (goal.at.build-requires-clause-arcs c).After-as_slice-2 is) in
     omega (arith, are.few, c.requires.graph.few_arcs)
 
 pub build-requires-clause-valid : goal.build-requires-clause-valid
 build-requires-clause-valid c =
-    let read =
-    is_read c.args.bytes.now c.without_mark-text.result.now c.as_slice.result.now c.args.graph c.in_ok-table.table
-    c.without_mark-text.ensures c.as_slice.ensures c.in_ok-table.ensures.holds in
-    let moved =
-    ap (timed (contents_in c.in_ok-table.table)) (sym c.as_slice-2.ensures) in
-    let same =
-    timed_moved c.order_of_pairs.ensures.valid c.order_of_pairs.ensures.sums c.order_of_pairs.ensures.known
-    c.in_ok-table.table read.known read.holds read.are.kept c.args.graph.arcs in
-    rw read.holds.scale
-    (are_arcs c.order_of_pairs.ensures.valid c.order_of_pairs.ensures.sums c.args.graph read.known
-    c.in_ok-arcs.arcs.items c.requires.graph read.are (sym same ∙ moved ∙ c.in_ok-arcs.ensures)).valid
+    let is = read (goal.at.build-requires-clause-valid c).In_ok-table in
+    rw is.holds.scale (made (goal.at.build-requires-clause-valid c).In_ok-arcs is (same (goal.at.build-requires-clause-valid c).After-as_slice-2 is)).valid
 
 pub returns : goal.returns
 returns c =
-    let read =
-    is_read c.args.bytes.now c.without_mark-text.result.now c.as_slice.result.now c.args.graph c.in_ok-table.table
-    c.without_mark-text.ensures c.as_slice.ensures c.in_ok-table.ensures.holds in
-    let moved =
-    ap (timed (contents_in c.in_ok-table.table)) (sym c.as_slice-2.ensures) in
-    let same =
-    timed_moved c.order_of_pairs.ensures.valid c.order_of_pairs.ensures.sums c.order_of_pairs.ensures.known
-    c.in_ok-table.table read.known read.holds read.are.kept c.args.graph.arcs in
-    net_read c.args.bytes.now c.without_mark-text.result.now c.args.graph read.known c.in_ok-arcs.arcs.items
-    c.without_mark-text.ensures (sym c.is_marked.ensures ∙ c.if-is_marked.false) read.is (sym same ∙ moved ∙ c.in_ok-arcs.ensures)
-    ∙ (rw (← read.holds.scale) (ap (λ net. Ok net) (sym c.in_ok-build.ensures.value)))
+    let is = read (goal.at.returns c).In_ok-table in
+    net_read c.args.bytes.now c.without_mark-text.result.now c.args.graph is.known c.in_ok-arcs.arcs.items
+    c.without_mark-text.ensures (sym c.is_marked.ensures ∙ c.if-is_marked.false) is.is
+    (same (goal.at.returns c).After-as_slice-2 is ∙ c.in_ok-arcs.ensures)
+    ∙ (rw (← is.holds.scale) (ap (λ net. Ok net) (sym c.in_ok-build.ensures.value)))
