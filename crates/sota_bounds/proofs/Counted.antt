@@ -47,12 +47,15 @@ sum_by-agree f g (x ∷ xs) same =
     sum_by-cons f x xs ∙ (rw (here, more) (sym (sum_by-cons g x xs)))
 
 -- of the need of a node
-pub need-few : (dest last : ℕ) (least from : List (Option ℕ)) → last ≤ 65535 → (i : ℕ) → need_by_times dest last least from i ≤ 65536
-need-few dest last least from few i =
+pub need-within : (dest last : ℕ) (least from : List (Option ℕ)) (i : ℕ) → need_by_times dest last least from i ≤ last + 1
+need-within dest last least from i =
     ⊎_elim
     (λ (same : i ≡ dest). rw (eq-eqb i dest same) (omega arith))
-    (λ (apart : i ≡ dest → ⊥). rw (ne_eqb i dest apart) (omega (arith, need-small last (time_at least i) (time_at from i))))
+    (λ (apart : i ≡ dest → ⊥). rw (ne_eqb i dest apart) (need-small last (time_at least i) (time_at from i)))
     (cases_eq i dest)
+
+pub need-few : (dest last : ℕ) (least from : List (Option ℕ)) → last ≤ 65535 → (i : ℕ) → need_by_times dest last least from i ≤ 65536
+need-few dest last least from few i = omega (arith, few, need-within dest last least from i)
 
 -- least times of an ask, and the laws of its region and of lists by number
 pub record IsAsked (net : Net) (origin dest last : ℕ) (least from : List (Option ℕ)) : Type 0 where

@@ -1,5 +1,5 @@
 -- What a region that was made holds.
-use Rattle.std.specs.Prelude.{ℕ, ◌≡◌, length}
+use Rattle.std.specs.Prelude.{ℕ, ◌≡◌, ◌+◌, ◌≤◌, All, length}
 use Rattle.sota_network.specs.Network.{Net, IsNode}
 use Rattle.sota_network.specs.Numbers.{listed}
 use Rattle.sota_network.specs.Walks.{IsLeastTime}
@@ -15,6 +15,7 @@ pub record IsRegion (made : AskRegion) (net : Net) (origin dest budget : ℕ) : 
   pub nodes : length made.least ≡ net.nodes
   pub least : (i : ℕ) → IsNode net i → IsLeastTime net dest i dest (time_at made.least i)
   pub need : made.need ≡ listed (region.need net origin dest budget) net.nodes
+  pub within : All (λ need. need ≤ budget + 1) made.need
   pub pairs : (i : ℕ) → IsNode net i → region.pairs_at net origin dest budget i
       ≡ pairs_by_lists made.least made.need i
   pub table_cells : made.table_cells ≡ region.table_cells net origin dest budget

@@ -2,3 +2,5 @@ pub mod State
 pub mod Asks
 pub mod Answers
 pub mod Words
+pub mod Plans
+pub mod Rows

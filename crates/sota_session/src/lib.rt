@@ -3,6 +3,7 @@
 
 mod ask;
 mod edit;
+mod plan;
 mod session;
 #[cfg(test)]
 mod tests;

@@ -4,6 +4,8 @@ ghost use Rattle.sota_units.specs.Memory.{Unless};
 ghost use Rattle.sota_hist.specs.Time.{total};
 ghost use Rattle.sota_network.specs.Network.{IsNet, arc_at, replaced};
 ghost use Rattle.sota_session.specs.Asks.{range_fault, size_fault, answer_of, IsInRange};
+ghost use Rattle.sota_session.specs.Plans.{plan_table};
+ghost use Rattle.sota_session.specs.Rows.{IsPlan};
 ghost use Rattle.sota_session.specs.Answers.{is_of_range, is_of_size, is_shortage};
 ghost use Rattle.sota_session.specs.Answers.{is_refused, refusal_of};
 ghost use Rattle.sota_session.specs.declared.ask.AskFault.TheVariants as asks;
@@ -11,9 +13,11 @@ ghost use Rattle.sota_session.specs.declared.edit.EditFault.TheVariants as edits
 
 use crate::ask::{Answer, Ask, AskFault, find_range_fault};
 use crate::edit::EditFault;
+use crate::plan::{Plan, policy_of};
 use sota_bounds::region;
 use sota_hist::Histogram;
 use sota_network::{Network, plain_grid};
+use sota_polfile::PolicyTable;
 use sota_units::{ArcId, NoMemory, Steps};
 use std::alloc::Global;
 use std::marker::Model;
@@ -75,16 +79,57 @@ impl Session {
     {
         let _ = products;
         let _ = pushes;
-        if let Some(fault) = find_range_fault(&self.network, &ask) {
+        let plan = self.plan(&ask)?;
+        Ok(Answer {
+            lower: plan.grid.lower(ask.origin, ask.budget),
+            upper: plan.grid.upper(ask.origin, ask.budget),
+            next: plan.grid.choice(ask.origin, ask.budget),
+        })
+    }
+
+    /// The policy of an ask for the network as it is now, which stays as it is: the grid over the
+    /// region of the ask. It holds on the network, and its value is the answer's lower bound.
+    ///
+    /// It is refused as the ask is. `products` and `pushes` are to count multiplications and table
+    /// entries; nothing is promised of them yet.
+    pub fn policy<M: Ledger, P: Ledger>(
+        &mut self,
+        ask: Ask,
+        products: &mut Steps<M>,
+        pushes: &mut Steps<P>,
+    ) -> Result<PolicyTable, AskFault>
+        ensures range { refusal_of is_of_range result ≡ range_fault self.old.network ask }
+        ensures size { range_fault self.old.network ask ≡ None
+            → Unless (is_refused is_shortage result)
+            (refusal_of is_of_size result ≡ size_fault self.old.network ask) }
+        ensures memory { result ≡ Err asks.NoMemory → IsInRange self.old.network ask }
+        ensures file { IfOk result (λ table. table ≡ plan_table self.old.network ask) }
+        ensures kept { self.new ≡ self.old }
+        ensures valid { IsNet self.new.network }
+    {
+        let _ = products;
+        let _ = pushes;
+        let plan = self.plan(&ask)?;
+        Ok(policy_of(self.alloc, &self.network, &ask, &plan)?)
+    }
+
+    /// Plans for an ask.
+    fn plan(&self, ask: &Ask) -> Result<Plan, AskFault>
+        ensures range { refusal_of is_of_range result ≡ range_fault self.now.network ask.now }
+        ensures size { range_fault self.now.network ask.now ≡ None
+            → Unless (is_refused is_shortage result)
+            (refusal_of is_of_size result ≡ size_fault self.now.network ask.now) }
+        ensures memory { result ≡ Err asks.NoMemory → IsInRange self.now.network ask.now }
+        ensures in_range { OnOk result (IsInRange self.now.network ask.now) }
+        ensures planned { IfOk result (λ plan. IsPlan plan self.now.network ask.now) }
+        ensures valid { IsNet self.now.network }
+    {
+        if let Some(fault) = find_range_fault(&self.network, ask) {
             return Err(fault);
         }
-        region(self.alloc, &self.network, ask.origin, ask.dest, ask.budget)?;
+        let region = region(self.alloc, &self.network, ask.origin, ask.dest, ask.budget)?;
         let grid = plain_grid(self.alloc, &self.network, ask.dest, ask.budget)?;
-        Ok(Answer {
-            lower: grid.lower(ask.origin, ask.budget),
-            upper: grid.upper(ask.origin, ask.budget),
-            next: grid.choice(ask.origin, ask.budget),
-        })
+        Ok(Plan { region, grid })
     }
 
     /// Gives an arc another time, by which the asks that follow are answered. A closed time closes

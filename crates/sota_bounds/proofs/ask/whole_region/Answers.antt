@@ -1,10 +1,11 @@
-use Rattle.std.proofs.Common.{ℕ, ◌≡◌, length, ◌∙◌, ap, List, Option, refl, sym, subst}
+use Rattle.std.proofs.Common.{ℕ, ◌≡◌, ◌+◌, ◌≤◌, length, ◌∙◌, ap, List, Option, refl, sym, subst}
+use Rattle.std.specs.List.{All}
 use Rattle.sota_network.specs.Network.{IsNode}
 use Rattle.sota_network.specs.Walks.{IsLeastTime}
 use Rattle.sota_network.specs.Numbers.{listed}
 use Rattle.sota_bounds.specs.Search.{time_at}
 use Rattle.sota_bounds.specs.Cells.{need_by_times, pairs_by_lists, table_cells_by_lists, broad_cells_by_lists}
-use Rattle.sota_bounds.proofs.Counted.{IsAsked, needs-are, pairs-is, table-is, broad-is}
+use Rattle.sota_bounds.proofs.Counted.{IsAsked, need-within, needs-are, pairs-is, table-is, broad-is}
 use Rattle.sota_bounds.proofs.ask.whole_region.Goals as goal
 
 -- the least times, and the law of the region at them
@@ -32,6 +33,10 @@ returns c = record {
   nodes = ap length c.new.ensures ∙ c.in_ok-least.ensures.nodes;
   least = subst (λ (times : List (Option ℕ)). (i : ℕ) → IsNode c.args.network.now i → IsLeastTime c.args.network.now c.args.dest i c.args.dest (time_at times i)) (sym c.new.ensures) c.in_ok-least.ensures.least;
   need = c.new-2.ensures ∙ kept c ∙ needs-are c.args.network.now c.args.origin c.args.dest c.args.budget c.in_ok-least.least.items c.in_ok-from.from.items (asked c);
+  within =
+      subst (λ (needs : List ℕ). All (λ (need : ℕ). need ≤ c.args.budget + 1) needs) (sym (c.new-2.ensures ∙ kept c))
+      (c.lists_by_number.ensures.within (need_by_times c.args.dest c.args.budget c.in_ok-least.least.items c.in_ok-from.from.items) (length c.in_ok-least.least.items) (c.args.budget + 1)
+      (need-within c.args.dest c.args.budget c.in_ok-least.least.items c.in_ok-from.from.items));
   pairs = λ i node.
       sym (ap (λ (least : List (Option ℕ)). pairs_by_lists least c.new-2.result i) c.new.ensures
       ∙ ap (λ (needs : List ℕ). pairs_by_lists c.in_ok-least.least.items needs i) c.new-2.ensures

@@ -1,0 +1,129 @@
+// What is planned for an ask, and its policy.
+ghost use Rattle.std.specs.Prelude.{◌≡◌, ◌+◌, ◌-◌, ◌≤◌, All, map, IfOk, IfSome};
+ghost use Rattle.std.specs.List.{filter_map, range_with_len};
+ghost use Rattle.sota_polfile.specs.Entry.{IsEntry};
+ghost use Rattle.sota_session.specs.Asks.{IsInRange};
+ghost use Rattle.sota_session.specs.Plans.{plan_table};
+ghost use Rattle.sota_session.specs.Rows.{IsPlan, Agrees, entry_in, row_in};
+
+use crate::ask::Ask;
+use sota_bounds::AskRegion;
+use sota_network::laws::{lists_by_number, region_by_least_times};
+use sota_network::{Grid, Network};
+use sota_polfile::{PolicyEntries, PolicyEntry, PolicyHead, PolicyRow, PolicyTable};
+use sota_units::{NoMemory, NodeId};
+use std::alloc::Global;
+
+/// What is planned for an ask: its region, and the grid towards its destination.
+#[derive(Drop)]
+pub(crate) struct Plan {
+    pub region: AskRegion,
+    pub grid: Grid,
+}
+
+/// The policy of an ask, out of what was planned for it.
+pub(crate) fn policy_of(
+    alloc: Global,
+    network: &Network,
+    ask: &Ask,
+    plan: &Plan,
+) -> Result<PolicyTable, NoMemory>
+    requires in_range { IsInRange network.now ask.now }
+    requires plan { IsPlan plan.now network.now ask.now }
+    ensures { IfOk result (λ table. table ≡ plan_table network.now ask.now) }
+{
+    lists_by_number();
+    region_by_least_times();
+    let rows = rows_of(alloc, network, plan)?;
+    let head = PolicyHead {
+        nodes: network.nodes(),
+        dest: ask.dest.get(),
+        origin: ask.origin.get(),
+        budget: ask.budget,
+        scale: network.scale().get(),
+    };
+    Ok(PolicyTable::from_parts(head, rows).unwrap())
+}
+
+/// The rows of all nodes that have one, in rising nodes.
+#[tactic(auto, using(crate::proofs::Ranges::found_more))]
+fn rows_of(alloc: Global, network: &Network, plan: &Plan) -> Result<Vec<PolicyRow>, NoMemory>
+    requires agrees { Agrees plan.now }
+    requires nodes { plan.now.grid.nodes ≡ network.now.nodes }
+    ensures valid { IfOk result (λ rows. All (λ row. All IsEntry row.entries) rows.items) }
+    ensures made { IfOk result (λ rows.
+        rows.items ≡ filter_map (row_in plan.now) (range_with_len 1 network.now.nodes)) }
+{
+    let needs = plan.region.need.as_slice();
+    let count = needs.iter().filter(|need| **need > 0).count();
+    let mut rows = Vec::with_capacity(alloc, count)?;
+    for node in 1..network.nodes() + 1 {
+        if let Some(row) = plan.row(alloc, NodeId(node))? {
+            rows.push(row)?;
+        }
+    }
+    Ok(rows)
+}
+
+impl Plan {
+    /// The row of a node. None exactly where it has no pair in the region.
+    fn row(&self, alloc: Global, node: NodeId) -> Result<Option<PolicyRow>, NoMemory>
+        requires agrees { Agrees self.now }
+        requires node { (1 ≤ node) × (node ≤ self.now.grid.nodes) }
+        ensures made { IfOk result (λ row. row ≡ row_in self.now node) }
+        ensures valid { IfOk result (λ row. IfSome row (λ row. All IsEntry row.entries)) }
+    {
+        let index = node.get() as usize - 1;
+        let need = self.region.need.as_slice()[index];
+        let Some(first) = self.region.least.as_slice()[index] else {
+            return Ok(None);
+        };
+        if first >= u64::from(need) {
+            return Ok(None);
+        }
+        let entries = self.entries(alloc, node, first as u32, need)?;
+        Ok(Some(PolicyRow {
+            node: node.get(),
+            first: first as u32,
+            entries,
+        }))
+    }
+
+    /// The entries of a node from a first budget up to below its need.
+    #[tactic(auto, using(crate::proofs::Ranges::mapped_more))]
+    fn entries(
+        &self,
+        alloc: Global,
+        node: NodeId,
+        first: u32,
+        need: u32,
+    ) -> Result<PolicyEntries, NoMemory>
+        requires node { (1 ≤ node) × (node ≤ self.now.grid.nodes) }
+        requires budgets { (first ≤ need) × (need ≤ self.now.grid.budget + 1) }
+        ensures made { IfOk result (λ entries.
+            entries ≡ map (entry_in self.now.grid node) (range_with_len first (need - first))) }
+        ensures valid { IfOk result (λ entries. All IsEntry entries) }
+    {
+        let mut entries = Vec::with_capacity(alloc, (need - first) as usize)?;
+        for budget in first..need {
+            entries.push(self.entry(node, budget))?;
+        }
+        Ok(PolicyEntries::new(entries))
+    }
+
+    /// The entry of a node at a budget.
+    fn entry(&self, node: NodeId, budget: u32) -> PolicyEntry
+        requires node { (1 ≤ node) × (node ≤ self.now.grid.nodes) }
+        requires budget { budget ≤ self.now.grid.budget }
+        ensures { result ≡ entry_in self.now.grid node budget }
+    {
+        let arc = match self.grid.choice(node, budget) {
+            Some(arc) => arc.get(),
+            None => 0,
+        };
+        PolicyEntry {
+            arc,
+            value: self.grid.lower(node, budget).get(),
+        }
+    }
+}
