@@ -45,6 +45,14 @@ closes_are_none : (net : Net) (number arc : ℕ) (ask : Ask) (answer : Answer)
 closes_are_none net number arc ask answer None e = cc
 closes_are_none net number arc ask answer (Some refusal) e = cc
 
+policies_are_none : (net : Net) (number : ℕ) (numbers : Ask3) (name : List ℕ) (ask : Ask)
+    (answer : Answer) (refusal : Option Refusal)
+    → reply_unless refusal net number (commands.Policy numbers name)
+    ≡ Some (replies.Answered ask answer)
+    → ⊥
+policies_are_none net number numbers name ask answer None e = cc
+policies_are_none net number numbers name ask answer (Some refusal) e = cc
+
 asks_are : (net : Net) (number : ℕ) (numbers : Ask3) (ask : Ask) (answer : Answer)
     (fault : Option AskFault) → ask_fault net (session_ask numbers) ≡ fault
     → reply_unless (option_map (λ fault. refusals.Ask fault) fault) net number
@@ -67,6 +75,9 @@ answers_ask net number (Ok (Some (commands.Edit arc pairs))) ask answer e =
 answers_ask net number (Ok (Some (commands.Close arc))) ask answer e =
     absurd (closes_are_none net number arc ask answer
     (command_refusal net (commands.Close arc)) e)
+answers_ask net number (Ok (Some (commands.Policy numbers name))) ask answer e =
+    absurd (policies_are_none net number numbers name ask answer
+    (command_refusal net (commands.Policy numbers name)) e)
 answers_ask net number (Ok (Some (commands.Ask numbers))) ask answer e =
     asks_are net number numbers ask answer (ask_fault net (session_ask numbers)) refl e
 

@@ -1,16 +1,18 @@
 -- An ask that is answered: the text around its line, and that the network of its line is one.
 use Rattle.std.proofs.Common.{◌≡◌, ◌++◌, ◌∷◌, ℕ, List, Option, Some, None, Ok}
-use Rattle.std.proofs.Common.{ap, ◌∙◌, subst}
+use Rattle.std.proofs.Common.{[], refl, ap, ◌∙◌, subst}
 use Rattle.std.specs.Option.{IsSomeAnd}
 use Rattle.sota_edge.specs.Desk.{Files, DeskState}
 use Rattle.sota_edge.specs.Sink.{SinkState, Wrote}
 use Rattle.sota_network.specs.Network.{Net, IsNet}
 use Rattle.sota_session.specs.Asks.{answer_of}
-use Rattle.sota_app.specs.Replies.{answer_line, replies_text}
+use Rattle.sota_app.specs.Outputs.{text_of}
+use Rattle.sota_app.specs.Replies.{answer_line, reply_line, replies_text, outputs_of}
 use Rattle.sota_app.specs.Script.{ScriptLine, ask_on, session_ask, replies_to}
 use Rattle.sota_app.specs.Outcome.{Outcome, outcome_of, Work, work_of, work_outcome}
 use Rattle.sota_app.specs.Causes.{Delivered}
 use Rattle.sota_app.specs.Meaning.{AskLine, line_net, IsAmong, IsAnswered}
+use Rattle.sota_app.specs.declared.reply.Reply.{Reply}
 use Rattle.sota_app.specs.declared.reply.Reply.TheVariants as replies
 use Rattle.sota_app.specs.declared.words.Request.{Request}
 use Rattle.sota_app.specs.declared.status.Status.{Status}
@@ -27,6 +29,10 @@ work_done : (o : Option Request) (files : Files) (work : Work) → Means o files
     → outcome_of o files ≡ work_outcome (Ok work)
 work_done None files work h = absurd h
 work_done (Some request) files work h = ap work_outcome h
+
+text_replied : (replies : List Reply) → text_of (outputs_of replies) ≡ replies_text replies
+text_replied [] = refl
+text_replied (reply ∷ replies) = ap (λ text. reply_line reply ++ text) (text_replied replies)
 
 -- what is written around the line
 abbrev pub around_line : AskLine → List ℕ
@@ -54,10 +60,11 @@ pub line_written : (line : AskLine) (words : List (List ℕ)) (o : Option Reques
     → Wrote (around_line line) s t
 line_written line words o files result d e s t answered lines work place all =
     subst (λ (text : List ℕ). Wrote text s t)
-    (ap (λ (o : Outcome). o.text) (work_done o files _ work)
+    (ap (λ (o : Outcome). text_of o.outputs) (work_done o files _ work)
+    ∙ text_replied (replies_to line.net lines)
     ∙ ap (λ lines. replies_text (replies_to line.net lines)) place
     ∙ line_text line words files answered)
-    all.text
+    all.made.text
 
 -- the network of the line is one
 means_network : Graphs → Texts → Weights → (o : Option Request) (files : Files) (work : Work)

@@ -107,6 +107,9 @@ line_keeps built kept net number (Ok (Some (commands.Close arc))) valid =
 line_keeps built kept net number (Ok (Some (commands.Ask ask))) valid =
     refused_keeps (command_refusal net (commands.Ask ask)) net number
     (effect_of net (commands.Ask ask)) valid (λ accepted. valid)
+line_keeps built kept net number (Ok (Some (commands.Policy ask name))) valid =
+    refused_keeps (command_refusal net (commands.Policy ask name)) net number
+    (effect_of net (commands.Policy ask name)) valid (λ accepted. valid)
 
 pub keeps_network : Built → Kept → (lines : List ScriptLine) (net : Net) → IsNet net
     → IsNet (network_after net lines)

@@ -1,38 +1,90 @@
--- How a call for a request ended: by the reading of its inputs and what was then written.
-use Rattle.std.proofs.Common.{◌≡◌, ℕ, List, Bool, true, false, Some, Result, Ok, Err}
-use Rattle.std.proofs.Common.{refl, sym, ap, ◌∙◌, subst}
-use Rattle.sota_edge.specs.Desk.{DeskState}
-use Rattle.sota_edge.specs.Sink.{SinkState, WrotePrefix}
-use Rattle.sota_edge.specs.declared.sink.SinkError.{SinkError}
-use Rattle.sota_edge.specs.declared.sink.SinkError.TheVariants as sinks
-use Rattle.sota_app.specs.Replies.{Written, replies_text, replies_status, some_refused}
-use Rattle.sota_app.specs.Replies.{lines_status}
+-- How a call for a request ended: by the reading of its inputs and what was then made.
+use Rattle.std.proofs.Common.{◌≡◌, List, [], ◌∷◌, Bool, true, false, Option, Some, None, Result, Ok}
+use Rattle.std.proofs.Common.{Err, IfOk, refl, sym, ap, subst, inl, inr, arith}
+use Rattle.sota_edge.specs.Counts.{Rose}
+use Rattle.sota_edge.specs.Desk.{Files, DeskState}
+use Rattle.sota_edge.specs.Sink.{SinkState}
+use Rattle.sota_app.specs.Outputs.{Output, NextBegun, Begun, StoreMissed, Stopped, Ends, LineEnds}
+use Rattle.sota_app.specs.Outputs.{only_line}
+use Rattle.sota_app.specs.Replies.{outputs_of, replies_status, some_refused, lines_status}
 use Rattle.sota_app.specs.Script.{replies_to}
 use Rattle.sota_app.specs.InputFaults.{fault_line}
 use Rattle.sota_app.specs.Outcome.{Outcome, outcome_of, Work, work_of}
-use Rattle.sota_app.specs.Outcome.{work_outcome}
+use Rattle.sota_app.specs.Outcome.{work_outcome, refused_words}
 use Rattle.sota_app.specs.Causes.{Cause, Ended, Delivered, Known, Took, UnreadInput, Stands}
-use Rattle.sota_app.specs.Causes.{status_of}
+use Rattle.sota_app.specs.Causes.{CanMiss, status_of}
 use Rattle.sota_app.specs.Inputs.{OnlyTook, InputAnswers, NoInputWritten}
 use Rattle.sota_app.specs.declared.input.InputFault.{InputFault}
 use Rattle.sota_app.specs.declared.input.NoInput.{NoInput}
 use Rattle.sota_app.specs.declared.input.NoInput.TheVariants as ends
 use Rattle.sota_app.specs.declared.words.Request.{Request}
 use Rattle.sota_app.specs.declared.status.Status.{Status}
-use Rattle.sota_app.specs.declared.status.Status.TheVariants.{Input}
-use Rattle.sota_app.proofs.Known.{known_map, of_all, none_begun, written_begun, stored_nothing}
+use Rattle.sota_app.specs.declared.status.Status.TheVariants.{Input, Words, WriteFault, NoMemory}
+use Rattle.sota_app.specs.declared.stop.Stop.{Stop}
+use Rattle.sota_app.specs.declared.stop.Stop.TheVariants as stops
+use Rattle.sota_app.proofs.Known.{known_map, of_all}
+use Rattle.sota_app.proofs.Made.{begun_by, none_begun, only_line_ends}
 
--- what was written of a text begins the text of an outcome with it
-begun_at : (request : Request) (read : Result Work NoInput) (d : DeskState) (s t : SinkState)
-    → Known d (λ files. work_of request files ≡ read)
-    → WrotePrefix (work_outcome read).text s t
-    → Known d (λ files. WrotePrefix (outcome_of (Some request) files).text s t)
-begun_at request read d s t known wrote =
+-- ---- how far it came
+
+next_caused : (Old New : Type 0) (made left : List Output) (d e : Option Files) (s t : SinkState)
+    → (Old → New) → NextBegun Old made left d e s t → NextBegun New made left d e s t
+next_caused Old New made [] d e s t f h = h
+next_caused Old New made (next ∷ left) d e s t f h = elim h [
+  | inl whole ↦ inl whole
+  | inr more ↦ elim more [
+    | inl line ↦ inr (inl line)
+    | inr file ↦ inr (inr (f file.0, file.1))
+  ]
+]
+
+-- with another cause for a file that was missed
+caused : (Old New : Type 0) (outputs : List Output) (d e : Option Files) (s t : SinkState)
+    → (Old → New) → Begun Old outputs d e s t → Begun New outputs d e s t
+caused Old New outputs d e s t f begun = record {
+  made = begun.made;
+  left = begun.left;
+  all = begun.all;
+  next = next_caused Old New begun.made begun.left d e s t f begun.next;
+}
+
+stopped_begun : (stop : Stop) (outputs : List Output) (d e : DeskState) (s t : SinkState)
+    → Stopped stop outputs d e s t
+    → Begun (CanMiss (status_of (Err stop)) d e) outputs d.holds e.holds s t
+stopped_begun stops.PutFailed outputs d e s t h =
+    caused ⊥ (CanMiss WriteFault d e) outputs d.holds e.holds s t (λ none. absurd none) h.1
+stopped_begun stops.StoreFailed outputs d e s t h = record {
+  made = h.1.made;
+  left = record { file = Some h.1.file; line = h.1.line } ∷ h.1.left;
+  all = h.1.all;
+  next = inr (inr (inl h.0, h.1.missed));
+}
+stopped_begun stops.NoMemory outputs d e s t h =
+    caused (Unit {0}) (CanMiss NoMemory d e) outputs d.holds e.holds s t (λ any. inr refl) h
+
+ends_begun : (result : Result Status Stop) (outputs : List Output) (d e : DeskState)
+    (s t : SinkState) → Ends result outputs d e s t
+    → Begun (CanMiss (status_of result) d e) outputs d.holds e.holds s t
+ends_begun (Ok status) outputs d e s t h =
+    begun_by (CanMiss status d e) outputs d.holds e.holds s t h.0
+ends_begun (Err stop) outputs d e s t h = stopped_begun stop outputs d e s t h
+
+-- the same of the outcome of what was read
+begun_at : (request : Request) (read : Result Work NoInput) (result : Result Status Stop)
+    (d e : DeskState) (s t : SinkState) → Known d (λ files. work_of request files ≡ read)
+    → Ends result (work_outcome read).outputs d e s t
+    → Known d (λ files. Begun (CanMiss (status_of result) d e)
+    (outcome_of (Some request) files).outputs d.holds e.holds s t)
+begun_at request read result d e s t known h =
     known_map d.holds _ _ (λ files inputs.
-    subst (λ (text : List ℕ). WrotePrefix text s t)
-    (sym (ap (λ (r : Result Work NoInput). (work_outcome r).text) inputs)) wrote) known
+    subst (λ (outputs : List Output).
+    Begun (CanMiss (status_of result) d e) outputs d.holds e.holds s t)
+    (sym (ap (λ (r : Result Work NoInput). (work_outcome r).outputs) inputs))
+    (ends_begun result (work_outcome read).outputs d e s t h)) known
 
--- where all of it was written, the outcome stands
+-- ---- causes
+
+-- where all of it was made, the outcome stands
 stands_at : (request : Request) (read : Result Work NoInput) (status : Status) (d e : DeskState)
     (s t : SinkState) → Known d (λ files. work_of request files ≡ read)
     → Delivered (work_outcome read) status d e s t
@@ -42,6 +94,19 @@ stands_at request read status d e s t known delivered =
     subst (λ (o : Outcome). Delivered o status d e s t) (sym (ap work_outcome inputs)) delivered)
     known
 
+stop_cause : (stop : Stop) (request : Request) (read : Result Work NoInput) (d e : DeskState)
+    (s t : SinkState) → Known d (λ files. work_of request files ≡ read)
+    → Stopped stop (work_outcome read).outputs d e s t
+    → Cause (status_of (Err stop)) (Some request) d e s t
+stop_cause stops.PutFailed request read d e s t known h = inl h.0
+stop_cause stops.StoreFailed request read d e s t known h = inr (
+  h.0,
+  known_map d.holds _ _ (λ files inputs.
+      subst (λ (outputs : List Output). StoreMissed outputs d.holds e s t)
+      (sym (ap (λ (r : Result Work NoInput). (work_outcome r).outputs) inputs)) h.1) known,
+)
+stop_cause stops.NoMemory request read d e s t known h = tt
+
 -- ---- the inputs were read
 
 done_cause : (refused : Bool) (request : Request) (d e : DeskState) (s t : SinkState)
@@ -50,74 +115,114 @@ done_cause : (refused : Bool) (request : Request) (d e : DeskState) (s t : SinkS
 done_cause true request d e s t stands = stands
 done_cause false request d e s t stands = stands
 
-ok_cause : (work : Work) (request : Request) (result : Result Status SinkError) (d e : DeskState)
-    (s t : SinkState) → e.holds ≡ d.holds → Known d (λ files. work_of request files ≡ Ok work)
-    → Written (replies_status (replies_to work.net work.lines)) result
-    (replies_text (replies_to work.net work.lines)) s t
+ok_cause : (work : Work) (request : Request) (result : Result Status Stop) (d e : DeskState)
+    (s t : SinkState) → Known d (λ files. work_of request files ≡ Ok work)
+    → Ends result (outputs_of (replies_to work.net work.lines)) d e s t
+    → IfOk result (λ status. status ≡ replies_status (replies_to work.net work.lines))
     → Cause (status_of result) (Some request) d e s t
-ok_cause work request (Ok status) d e s t kept known written =
-    let status_is : status ≡ replies_status (replies_to work.net work.lines) = written.0 in
-    subst (λ (status : Status). Cause status (Some request) d e s t) (sym status_is)
+ok_cause work request (Ok status) d e s t known made is =
+    subst (λ (status : Status). Cause status (Some request) d e s t) (sym is)
     (done_cause (some_refused (replies_to work.net work.lines)) request d e s t
     (stands_at request (Ok work) _ d e s t known
-    (record { status_is = refl; text = written.1; stores = kept ∙ stored_nothing d.holds })))
-ok_cause work request (Err sinks.Failed) d e s t kept known written = written.0
-ok_cause work request (Err sinks.NoMemory) d e s t kept known written = tt
+    (record { status_is = refl; made = made.0 })))
+ok_cause work request (Err stop) d e s t known stopped is =
+    stop_cause stop request (Ok work) d e s t known stopped
+
+-- the loads of the inputs left what is held and the count of stores
+since_loads : {A : Type 0} (result : Result A Stop) (outputs : List Output) (d m e : DeskState)
+    (s t : SinkState) → OnlyTook d m → Ends result outputs m e s t → Ends result outputs d e s t
+since_loads (Ok value) outputs d m e s t took h = (
+  rw (sym took.holds) h.0,
+  omega (arith, took.stores, h.1),
+  h.2,
+)
+since_loads (Err stops.PutFailed) outputs d m e s t took h = (h.0, rw (sym took.holds) h.1)
+since_loads (Err stops.StoreFailed) outputs d m e s t took h = (
+  subst (λ count. Rose count e.store_faults) took.stores h.0,
+  rw (sym took.holds) h.1,
+)
+since_loads (Err stops.NoMemory) outputs d m e s t took h = rw (sym took.holds) h
 
 pub ok_ended : {T : Type 0} (view : T → Work) (request : Request) (task : T)
-    (result : Result Status SinkError) (d e : DeskState) (s t : SinkState)
-    → InputAnswers view (Ok task) (work_of request) (UnreadInput request) d e
-    → Written (replies_status (replies_to (view task).net (view task).lines)) result
-    (replies_text (replies_to (view task).net (view task).lines)) s t
+    (result : Result Status Stop) (d m e : DeskState) (s t : SinkState)
+    → InputAnswers view (Ok task) (work_of request) (UnreadInput request) d m
+    → Ends result (outputs_of (replies_to (view task).net (view task).lines)) m e s t
+    → IfOk result (λ status. status ≡ replies_status (replies_to (view task).net (view task).lines))
     → Ended (status_of result) (Some request) d e s t
-ok_ended view request task result d e s t read written = record {
-  cause = ok_cause (view task) request result d e s t read.0.holds read.1 written;
-  begun = begun_at request (Ok (view task)) d s t read.1 (written_begun _ result _ s t written);
-  kept = read.0.holds;
-}
+ok_ended view request task result d m e s t read ends is =
+    let made = since_loads result (outputs_of (replies_to (view task).net (view task).lines))
+    d m e s t read.0 ends in
+    record {
+      cause = ok_cause (view task) request result d e s t read.1 made is;
+      begun = begun_at request (Ok (view task)) result d e s t read.1 made;
+    }
 
 -- ---- an input was not
 
-fault_cause : (fault : InputFault) (request : Request) (result : Result Status SinkError)
+fault_cause : (fault : InputFault) (request : Request) (result : Result Status Stop)
+    (d e : DeskState) (s t : SinkState) → Took fault d e
+    → Known d (λ files. work_of request files ≡ Err (ends.Fault fault))
+    → Ends result (only_line (fault_line fault)) d e s t
+    → LineEnds result (fault_line fault) s t → IfOk result (λ status. status ≡ Input)
+    → Cause (status_of result) (Some request) d e s t
+fault_cause fault request (Ok status) d e s t took known made line is =
+    subst (λ (status : Status). Cause status (Some request) d e s t) (sym is) (
+      stands_at request (Err (ends.Fault fault)) Input d e s t known
+          (record { status_is = refl; made = made.0 }),
+      (fault, line.0, took),
+    )
+fault_cause fault request (Err stop) d e s t took known stopped line is =
+    stop_cause stop request (Err (ends.Fault fault)) d e s t known stopped
+
+fault_ended : (fault : InputFault) (request : Request) (result : Result Status Stop)
     (d e : DeskState) (s t : SinkState) → OnlyTook d e → Took fault d e
     → Known d (λ files. work_of request files ≡ Err (ends.Fault fault))
-    → Written Input result (fault_line fault) s t
-    → Cause (status_of result) (Some request) d e s t
-fault_cause fault request (Ok status) d e s t only took known written =
-    subst (λ (status : Status). Cause status (Some request) d e s t) (sym written.0) (
-      stands_at request (Err (ends.Fault fault)) Input d e s t known
-          (record {
-            status_is = refl;
-            text = written.1;
-            stores = only.holds ∙ stored_nothing d.holds;
-          }),
-      (fault, written.1, took),
-    )
-fault_cause fault request (Err sinks.Failed) d e s t only took known written = written.0
-fault_cause fault request (Err sinks.NoMemory) d e s t only took known written = tt
+    → LineEnds result (fault_line fault) s t → IfOk result (λ status. status ≡ Input)
+    → Ended (status_of result) (Some request) d e s t
+fault_ended fault request result d e s t only took known line is =
+    let made = only_line_ends result (fault_line fault) d e s t only.holds
+    (omega (arith, only.stores)) line in
+    record {
+      cause = fault_cause fault request result d e s t took known made line is;
+      begun = begun_at request (Err (ends.Fault fault)) result d e s t known made;
+    }
 
 pub err_ended : {T : Type 0} (view : T → Work) (request : Request) (end : NoInput)
-    (result : Result Status SinkError) (d e : DeskState) (s t : SinkState)
+    (result : Result Status Stop) (d e : DeskState) (s t : SinkState)
     → InputAnswers view (Err end) (work_of request) (UnreadInput request) d e
     → NoInputWritten end result s t
     → Ended (status_of result) (Some request) d e s t
-err_ended view request (ends.Fault fault) result d e s t read written = record {
-  cause = fault_cause fault request result d e s t read.0 read.1 read.2 written;
-  begun = begun_at request (Err (ends.Fault fault)) d s t read.2
-      (written_begun _ result _ s t written);
-  kept = read.0.holds;
-}
+err_ended view request (ends.Fault fault) result d e s t read written =
+    fault_ended fault request result d e s t read.0 read.1 read.2 written.0 written.1
 err_ended view request ends.Unread result d e s t read written = record {
-  cause = subst
-      (λ (result : Result Status SinkError). Cause (status_of result) (Some request) d e s t)
+  cause = subst (λ (result : Result Status Stop). Cause (status_of result) (Some request) d e s t)
       (sym written.0) (read.0, written.1, read.1);
-  begun = of_all d.holds _ (λ files. none_begun _ s t written.1);
-  kept = read.1;
+  begun = of_all d.holds _ (λ files. none_begun _ _ d.holds e.holds s t read.1 written.1);
 }
 err_ended view request ends.NoMemory result d e s t read written = record {
-  cause = subst
-      (λ (result : Result Status SinkError). Cause (status_of result) (Some request) d e s t)
+  cause = subst (λ (result : Result Status Stop). Cause (status_of result) (Some request) d e s t)
       (sym written.0) tt;
-  begun = of_all d.holds _ (λ files. none_begun _ s t written.1);
-  kept = read;
+  begun = of_all d.holds _ (λ files. none_begun _ _ d.holds e.holds s t read written.1);
+}
+
+-- ---- the words are no request
+
+words_cause : (result : Result Status Stop) (d : DeskState) (s t : SinkState)
+    → LineEnds result refused_words s t → IfOk result (λ status. status ≡ Words)
+    → (result ≡ Err stops.NoMemory → Rose s.shortages t.shortages)
+    → Cause (status_of result) None d d s t
+words_cause (Ok status) d s t line is short =
+    subst (λ (status : Status). Cause status None d d s t) (sym is) (refl, line.0, refl)
+words_cause (Err stops.PutFailed) d s t line is short = inl line.1
+words_cause (Err stops.StoreFailed) d s t line is short = absurd line
+words_cause (Err stops.NoMemory) d s t line is short = short refl
+
+pub words_ended : (result : Result Status Stop) (d : DeskState) (s t : SinkState)
+    → LineEnds result refused_words s t → IfOk result (λ status. status ≡ Words)
+    → (result ≡ Err stops.NoMemory → Rose s.shortages t.shortages)
+    → Ended (status_of result) None d d s t
+words_ended result d s t line is short = record {
+  cause = words_cause result d s t line is short;
+  begun = of_all d.holds _ (λ files. ends_begun result (only_line refused_words) d d s t
+      (only_line_ends result refused_words d d s t refl (omega arith) line));
 }

@@ -1,6 +1,6 @@
 -- Where nothing fails, the cause of a status is the whole outcome.
 use Rattle.std.proofs.Common.{◌≡◌, ◌≢◌, ℕ, List, false, Option, Some, None, Result, Ok, Err, IsOk}
-use Rattle.std.proofs.Common.{refl, ◌∙◌, ap, subst, inl, inr}
+use Rattle.std.proofs.Common.{refl, ap, subst, inl, inr}
 use Rattle.std.specs.Option.{IsSomeAnd}
 use Rattle.sota_units.specs.Memory.{◌>>=◌}
 use Rattle.sota_edge.specs.Desk.{Files, DeskState}
@@ -17,7 +17,8 @@ use Rattle.sota_app.specs.declared.words.Request.TheVariants as requests
 use Rattle.sota_app.specs.declared.status.Status.{Status}
 use Rattle.sota_app.specs.declared.status.Status.TheVariants.{Done, SomeRefused, Words, Input}
 use Rattle.sota_app.specs.declared.status.Status.TheVariants.{ReadFault, WriteFault, NoMemory}
-use Rattle.sota_app.proofs.Known.{at_files, wrote_nothing, stored_nothing}
+use Rattle.sota_app.proofs.Known.{at_files}
+use Rattle.sota_app.proofs.Made.{none_made, only_made}
 
 -- what holds of a request holds of something
 some_request : (o : Option Request) (A : Type 0) → IsSomeAnd o (λ _. A) → A
@@ -74,19 +75,14 @@ unread_outcome None files d e s t tells none same held h = absurd h
 unread_outcome (Some request) files d e s t tells none same held h =
     let is : outcome_of (Some request) files ≡ no_input ends.Unread =
     ap work_outcome (unread_work request files d e tells none.loads h) in
-    rw is (record {
-      status_is = refl;
-      text = ap (λ (u : SinkState). u.written) same ∙ wrote_nothing s.written;
-      stores = held ∙ stored_nothing d.holds;
-    })
+    rw is (record { status_is = refl; made = none_made d.holds e.holds s t held same })
 
 words_outcome : (o : Option Request) (files : Files) (d e : DeskState) (s t : SinkState)
     → o ≡ None → Wrote refused_words s t → e ≡ d → Delivered (outcome_of o files) Words d e s t
 words_outcome (Some request) files d e s t is wrote same = absurd (cc)
 words_outcome None files d e s t is wrote same = record {
   status_is = refl;
-  text = wrote;
-  stores = ap (λ (u : DeskState). u.holds) same ∙ stored_nothing d.holds;
+  made = only_made refused_words d.holds e.holds s t (ap (λ (u : DeskState). u.holds) same) wrote;
 }
 
 pub exact : (result : Status) (o : Option Request) (files : Files) (d e : DeskState)
@@ -102,5 +98,8 @@ exact Words o files d e s t tells none ran cause =
     words_outcome o files d e s t cause.0 cause.1 cause.2
 exact ReadFault o files d e s t tells none ran cause =
     unread_outcome o files d e s t tells none cause.1 cause.2 cause.0
-exact WriteFault o files d e s t tells none ran cause = absurd (none.puts cause)
+exact WriteFault o files d e s t tells none ran cause = elim cause [
+  | inl put ↦ absurd (none.puts put)
+  | inr store ↦ absurd (none.stores store.0)
+]
 exact NoMemory o files d e s t tells none ran cause = absurd (ran refl)

@@ -1,4 +1,5 @@
 pub mod Known
+pub mod Made
 pub mod ReadTexts
 pub mod AnswerLines
 pub mod Lines
@@ -8,3 +9,4 @@ pub mod Exact
 pub mod Ends
 pub mod EachLine
 pub mod Answered
+pub mod Prefixes

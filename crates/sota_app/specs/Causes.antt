@@ -1,14 +1,13 @@
--- What a status means: its cause, and what it says of the text that was written.
-use Rattle.std.specs.Prelude.{◌≡◌, ◌⊎◌, ℕ, ◌+◌, List, fold, false, Option, Some, None, IfSome}
-use Rattle.std.specs.Prelude.{option_map, Result, Ok, Err, IsOk}
+-- What a status means: its cause, and what it says of what was written and stored.
+use Rattle.std.specs.Prelude.{◌≡◌, ◌⊎◌, ℕ, ◌+◌, List, false, Option, Some, None, IfSome}
+use Rattle.std.specs.Prelude.{Result, Ok, Err, IsOk}
 use Rattle.std.specs.Option.{IsSomeAnd}
 use Rattle.sota_edge.specs.Counts.{Rose, RoseBy}
-use Rattle.sota_edge.specs.Desk.{Files, DeskState, stored}
-use Rattle.sota_edge.specs.Sink.{SinkState, Wrote, WrotePrefix}
-use Rattle.sota_edge.specs.declared.sink.SinkError.{SinkError}
-use Rattle.sota_edge.specs.declared.sink.SinkError.TheVariants as sinks
+use Rattle.sota_edge.specs.Desk.{Files, DeskState}
+use Rattle.sota_edge.specs.Sink.{SinkState, Wrote}
 use Rattle.sota_dimacs.specs.Words as graphs
 use Rattle.sota_histcsv.specs.Words as hists
+use Rattle.sota_app.specs.Outputs.{Made, Begun, StoreMissed}
 use Rattle.sota_app.specs.Outcome.{Outcome, outcome_of, refused_words}
 use Rattle.sota_app.specs.Outcome.{graph_of, network_of, is_dash}
 use Rattle.sota_app.specs.InputFaults.{fault_place, fault_line}
@@ -20,6 +19,8 @@ use Rattle.sota_app.specs.declared.words.Request.TheVariants as requests
 use Rattle.sota_app.specs.declared.status.Status.{Status}
 use Rattle.sota_app.specs.declared.status.Status.TheVariants.{Done, SomeRefused, Words, Input}
 use Rattle.sota_app.specs.declared.status.Status.TheVariants.{ReadFault, WriteFault, NoMemory}
+use Rattle.sota_app.specs.declared.stop.Stop.{Stop}
+use Rattle.sota_app.specs.declared.stop.Stop.TheVariants as stops
 
 -- ---- what the desk tells
 
@@ -66,16 +67,11 @@ Took fault old new = IsOfText fault ⊎ RoseBy (fault_place fault + 1) old.taken
 
 -- ---- outcomes that stand
 
--- the files after these stores, in order
-abbrev pub all_stored : List (List ℕ × List ℕ) → Files → Files
-all_stored stores files = fold (λ held store. stored store.0 store.1 held) files stores
-
--- the whole outcome stands: its status, its text after what was written, and its stores
+-- the whole outcome stands: its status, and its outputs after what was written and stored
 pub record Delivered (outcome : Outcome) (status : Status)
     (desk_old desk_new : DeskState) (sink_old sink_new : SinkState) : Type 0 where
   pub status_is : outcome.status ≡ status
-  pub text : Wrote outcome.text sink_old sink_new
-  pub stores : desk_new.holds ≡ option_map (all_stored outcome.stores) desk_old.holds
+  pub made : Made outcome.outputs desk_old.holds desk_new.holds sink_old sink_new
 
 -- no count of faults rose
 pub record NoFault (desk_old desk_new : DeskState) (sink_old sink_new : SinkState) : Type 0 where
@@ -109,25 +105,33 @@ Cause ReadFault request desk_old desk_new sink_old sink_new =
     × (sink_new ≡ sink_old) × (desk_new.holds ≡ desk_old.holds)
 Cause WriteFault request desk_old desk_new sink_old sink_new =
     Rose sink_old.faults sink_new.faults
+    ⊎ (Rose desk_old.store_faults desk_new.store_faults
+    × Known desk_old (λ files.
+    StoreMissed (outcome_of request files).outputs desk_old.holds desk_new sink_old sink_new))
 Cause NoMemory None desk_old desk_new sink_old sink_new =
     Rose sink_old.shortages sink_new.shortages
 Cause NoMemory (Some request) desk_old desk_new sink_old sink_new = Unit {0}
 
 -- ---- how a call ended, whatever happened
 
--- the status of a call; where a put failed or found no memory, that decides
-abbrev pub status_of : Result Status SinkError → Status
+-- the status of a call; where its making of outputs stopped, that decides
+abbrev pub status_of : Result Status Stop → Status
 status_of (Ok status) = status
-status_of (Err sinks.Failed) = WriteFault
-status_of (Err sinks.NoMemory) = NoMemory
+status_of (Err stops.PutFailed) = WriteFault
+status_of (Err stops.StoreFailed) = WriteFault
+status_of (Err stops.NoMemory) = NoMemory
+
+-- a file can be missed only where the count of failed stores rose or memory was wanted
+abbrev pub CanMiss : Status → DeskState → DeskState → Type 0
+CanMiss status desk_old desk_new =
+    Rose desk_old.store_faults desk_new.store_faults ⊎ (status ≡ NoMemory)
 
 -- a call for this request, or for words that are none, ended with this status
 pub record Ended (status : Status) (request : Option Request)
     (desk_old desk_new : DeskState) (sink_old sink_new : SinkState) : Type 0 where
   -- the status has its cause
   pub cause : Cause status request desk_old desk_new sink_old sink_new
-  -- what was written begins the text of the outcome
+  -- some first outputs of the outcome were made, and at most the next one was begun
   pub begun : Known desk_old (λ files.
-      WrotePrefix (outcome_of request files).text sink_old sink_new)
-  -- nothing was stored
-  pub kept : desk_new.holds ≡ desk_old.holds
+      Begun (CanMiss status desk_old desk_new) (outcome_of request files).outputs
+      desk_old.holds desk_new.holds sink_old sink_new)

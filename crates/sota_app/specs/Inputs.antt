@@ -1,11 +1,10 @@
 -- How the reading of inputs ended.
 use Rattle.std.specs.Prelude.{◌≡◌, ◌≤◌, List, [], ◌∷◌, length, Result, Ok}
-use Rattle.std.specs.Prelude.{Err}
+use Rattle.std.specs.Prelude.{Err, IfOk}
 use Rattle.sota_units.specs.Limits.{TEXT_LIMIT}
 use Rattle.sota_edge.specs.Desk.{Files, DeskState}
 use Rattle.sota_edge.specs.Sink.{SinkState}
-use Rattle.sota_edge.specs.declared.sink.SinkError.{SinkError}
-use Rattle.sota_app.specs.Replies.{Written}
+use Rattle.sota_app.specs.Outputs.{LineEnds}
 use Rattle.sota_app.specs.InputFaults.{fault_line}
 use Rattle.sota_app.specs.Outcome.{Work}
 use Rattle.sota_app.specs.Script.{ScriptLine, ask_on, script_lines}
@@ -17,6 +16,7 @@ use Rattle.sota_app.specs.declared.input.NoInput.{NoInput}
 use Rattle.sota_app.specs.declared.input.NoInput.TheVariants as ends
 use Rattle.sota_app.specs.declared.status.Status.{Status}
 use Rattle.sota_app.specs.declared.status.Status.TheVariants.{Input, ReadFault, NoMemory}
+use Rattle.sota_app.specs.declared.stop.Stop.{Stop}
 
 -- the lines of a task, and their network
 abbrev pub lines_of : Script → List ScriptLine
@@ -60,7 +60,8 @@ InputAnswers view (Err ends.Unread) meaning Missed old new =
 InputAnswers view (Err ends.NoMemory) meaning Missed old new = new.holds ≡ old.holds
 
 -- the line of an input that is not accepted was written; of one that could not be read nothing was
-abbrev pub NoInputWritten : NoInput → Result Status SinkError → SinkState → SinkState → Type 0
-NoInputWritten (ends.Fault fault) result old new = Written Input result (fault_line fault) old new
+abbrev pub NoInputWritten : NoInput → Result Status Stop → SinkState → SinkState → Type 0
+NoInputWritten (ends.Fault fault) result old new =
+    LineEnds result (fault_line fault) old new × IfOk result (λ status. status ≡ Input)
 NoInputWritten ends.Unread result old new = (result ≡ Ok ReadFault) × (new ≡ old)
 NoInputWritten ends.NoMemory result old new = (result ≡ Ok NoMemory) × (new ≡ old)

@@ -1,4 +1,5 @@
--- What the words and the files mean: a text, the files that are stored, and a status.
+-- What the words and the files mean: the outputs, which are lines and stored files in their order,
+-- and a status.
 use Rattle.std.specs.Prelude.{ℕ, List, [], ◌∷◌, nat_lt, length, Option, Some, None, Result}
 use Rattle.std.specs.Prelude.{Ok, Err}
 use Rattle.std.specs.Prelude.{Bool, if◌then◌else◌, codes}
@@ -11,7 +12,8 @@ use Rattle.sota_histcsv.specs.Certain.{certain_net}
 use Rattle.sota_histcsv.specs.Histograms.{hist_net}
 use Rattle.sota_network.specs.Network.{Net}
 use Rattle.sota_app.specs.Words.{request_of}
-use Rattle.sota_app.specs.Replies.{replies_text, replies_status}
+use Rattle.sota_app.specs.Outputs.{Output, only_line}
+use Rattle.sota_app.specs.Replies.{outputs_of, replies_status}
 use Rattle.sota_app.specs.Script.{ScriptLine, ask_on, script_lines, replies_to}
 use Rattle.sota_app.specs.InputFaults.{input_limit, fault_line}
 use Rattle.sota_app.specs.declared.reply.Reply.{Reply}
@@ -90,21 +92,19 @@ work_of (requests.Run run) files = do
 -- ---- outcomes
 
 pub record Outcome : Type 0 where
-  pub text : List ℕ
-  pub stores : List (List ℕ × List ℕ)
+  pub outputs : List Output
   pub status : Status
 
 -- these replies
 abbrev pub replied : List Reply → Outcome
-replied replies =
-    record { text = replies_text replies; stores = []; status = replies_status replies }
+replied replies = record { outputs = outputs_of replies; status = replies_status replies }
 
 -- an input that is not accepted; want of memory is never the meaning of files
 abbrev pub no_input : NoInput → Outcome
 no_input (ends.Fault fault) =
-    record { text = fault_line fault; stores = []; status = statuses.Input }
-no_input ends.Unread = record { text = []; stores = []; status = statuses.ReadFault }
-no_input ends.NoMemory = record { text = []; stores = []; status = statuses.NoMemory }
+    record { outputs = only_line (fault_line fault); status = statuses.Input }
+no_input ends.Unread = record { outputs = []; status = statuses.ReadFault }
+no_input ends.NoMemory = record { outputs = []; status = statuses.NoMemory }
 
 abbrev pub work_outcome : Result Work NoInput → Outcome
 work_outcome (Ok work) = replied (replies_to work.net work.lines)
@@ -115,7 +115,8 @@ abbrev pub refused_words : List ℕ
 refused_words = codes "refused words\n"
 
 abbrev pub outcome_of : Option Request → Files → Outcome
-outcome_of None files = record { text = refused_words; stores = []; status = statuses.Words }
+outcome_of None files =
+    record { outputs = only_line refused_words; status = statuses.Words }
 outcome_of (Some request) files = work_outcome (work_of request files)
 
 -- the outcome of the words after the program's name

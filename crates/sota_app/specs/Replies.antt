@@ -1,12 +1,8 @@
 -- Replies and their lines: words and numbers with one space between, ended by LF.
-use Rattle.std.specs.Prelude.{◌≡◌, ◌≤◌, ℕ, List, [], ◌++◌, Bool, true, false, flat_map}
-use Rattle.std.specs.Prelude.{Option, Some, None, Result, Ok, Err, if◌then◌else◌, codes, decimal}
+use Rattle.std.specs.Prelude.{ℕ, List, [], ◌++◌, Bool, true, false, map, flat_map}
+use Rattle.std.specs.Prelude.{Option, Some, None, if◌then◌else◌, codes, decimal}
 use Rattle.std.specs.List.{list_any}
 use Rattle.sota_units.specs.GrainText.{grain_spelling}
-use Rattle.sota_edge.specs.Counts.{Rose}
-use Rattle.sota_edge.specs.Sink.{SinkState, Wrote, WrotePrefix}
-use Rattle.sota_edge.specs.declared.sink.SinkError.{SinkError}
-use Rattle.sota_edge.specs.declared.sink.SinkError.TheVariants as sinks
 use Rattle.sota_hist.specs.Build as times
 use Rattle.sota_hist.specs.Words as time_words
 use Rattle.sota_script.specs.Words as lines
@@ -15,6 +11,8 @@ use Rattle.sota_session.specs.declared.ask.Answer.{Answer}
 use Rattle.sota_session.specs.Answers as asks
 use Rattle.sota_session.specs.Words.{ask_word, ask_count, edit_word}
 use Rattle.sota_session.specs.declared.edit.EditFault.TheVariants as edits
+use Rattle.sota_app.specs.Outputs.{Output}
+use Rattle.sota_app.specs.declared.reply.NamedFile.{NamedFile}
 use Rattle.sota_app.specs.declared.reply.Reply.{Reply}
 use Rattle.sota_app.specs.declared.reply.Reply.TheVariants as replies
 use Rattle.sota_app.specs.declared.reply.Refusal.{Refusal}
@@ -63,6 +61,10 @@ edited_line arc = codes "edited " ++ decimal arc ++ codes "\n"
 abbrev pub closed_line : ℕ → List ℕ
 closed_line arc = codes "closed " ++ decimal arc ++ codes "\n"
 
+-- 'stored NAME', the name as it stands
+abbrev pub stored_line : List ℕ → List ℕ
+stored_line name = codes "stored " ++ name ++ codes "\n"
+
 abbrev pub count_text : Option ℕ → List ℕ
 count_text None = []
 count_text (Some count) = codes " " ++ decimal count
@@ -77,7 +79,16 @@ abbrev pub reply_line : Reply → List ℕ
 reply_line (replies.Answered ask answer) = answer_line ask answer
 reply_line (replies.Edited arc) = edited_line arc
 reply_line (replies.Closed arc) = closed_line arc
+reply_line (replies.Stored file) = stored_line file.name
 reply_line (replies.Refused line refusal) = refused_line line refusal
+
+-- the file that is stored before it
+abbrev pub reply_file : Reply → Option NamedFile
+reply_file (replies.Stored file) = Some file
+reply_file _ = None
+
+abbrev pub reply_output : Reply → Output
+reply_output reply = record { file = reply_file reply; line = reply_line reply }
 
 -- a reply that begins with 'refused'
 abbrev pub is_refusal : Reply → Bool
@@ -90,6 +101,9 @@ is_refusal _ = false
 abbrev pub replies_text : List Reply → List ℕ
 replies_text replies = flat_map reply_line replies
 
+abbrev pub outputs_of : List Reply → List Output
+outputs_of replies = map reply_output replies
+
 abbrev pub some_refused : List Reply → Bool
 some_refused replies = list_any is_refusal replies
 
@@ -99,19 +113,3 @@ lines_status refused = if refused then SomeRefused else Done
 
 abbrev pub replies_status : List Reply → Status
 replies_status replies = lines_status (some_refused replies)
-
--- ---- writing
-
--- how the writing of a text ended, and what is answered with it: all of it was written, or a put
--- failed, or memory was wanted
-abbrev pub Written : {A : Type 0} → A → Result A SinkError → List ℕ → SinkState → SinkState → Type 0
-Written value (Ok answer) text old new =
-    (answer ≡ value) × Wrote text old new × (old.faults ≤ new.faults)
-Written value (Err sinks.Failed) text old new =
-    Rose old.faults new.faults × WrotePrefix text old new
-Written value (Err sinks.NoMemory) text old new = WrotePrefix text old new
-
--- the same of replies and their status
-abbrev pub RepliesWritten : Result Status SinkError → List Reply → SinkState → SinkState → Type 0
-RepliesWritten result replies old new =
-    Written (replies_status replies) result (replies_text replies) old new

@@ -1,4 +1,5 @@
--- What the lines of a script do to a network, and what is replied to them.
+-- What the lines of a script do to a network, and what is replied to them. A reply may come with a
+-- file, which is stored before it.
 use Rattle.std.specs.Prelude.{ℕ, List, [], ◌∷◌, ◌++◌, map, fold, is_some, option_to_list}
 use Rattle.std.specs.Prelude.{Option, Some, None, option_map, Result, Ok, Err, if◌then◌else◌}
 use Rattle.std.specs.Option.{option_or}
@@ -10,9 +11,12 @@ use Rattle.sota_script.specs.declared.command.Ask3.{Ask3}
 use Rattle.sota_script.specs.declared.command.Command.{Command}
 use Rattle.sota_script.specs.declared.command.Command.TheVariants as commands
 use Rattle.sota_script.specs.declared.fault.LineFault.{LineFault}
+use Rattle.sota_polfile.specs.Spelling.{spelling}
 use Rattle.sota_session.specs.Asks.{ask_fault, answer_of}
+use Rattle.sota_session.specs.Plans.{plan_table}
 use Rattle.sota_session.specs.declared.ask.Ask.{Ask}
 use Rattle.sota_session.specs.declared.edit.EditFault.TheVariants as edits
+use Rattle.sota_app.specs.declared.reply.NamedFile.{NamedFile}
 use Rattle.sota_app.specs.declared.reply.Reply.{Reply}
 use Rattle.sota_app.specs.declared.reply.Reply.TheVariants as replies
 use Rattle.sota_app.specs.declared.reply.Refusal.{Refusal}
@@ -45,14 +49,22 @@ session_ask ask = record { origin = ask.origin; dest = ask.dest; budget = ask.bu
 abbrev pub arc_refusal : Net → ℕ → Option Refusal
 arc_refusal net arc = if is_some (arc_at net arc) then None else Some (refusals.Edit edits.NoArc)
 
+abbrev pub ask_refusal : Net → Ask3 → Option Refusal
+ask_refusal net ask = option_map (λ fault. refusals.Ask fault) (ask_fault net (session_ask ask))
+
 -- the first cause for which a command is refused
 abbrev pub command_refusal : Net → Command → Option Refusal
 command_refusal net (commands.Edit arc pairs) =
     option_or (option_map (λ fault. refusals.Time fault) (at_most_fault net.scale pairs))
     (arc_refusal net arc)
 command_refusal net (commands.Close arc) = arc_refusal net arc
-command_refusal net (commands.Ask ask) =
-    option_map (λ fault. refusals.Ask fault) (ask_fault net (session_ask ask))
+command_refusal net (commands.Ask ask) = ask_refusal net ask
+command_refusal net (commands.Policy ask name) = ask_refusal net ask
+
+-- the policy of an ask under a name
+abbrev pub policy_file : Net → Ask3 → List ℕ → NamedFile
+policy_file net ask name =
+    record { name = name; bytes = spelling (plan_table net (session_ask ask)) }
 
 -- the reply to a command that is not refused, and the network of the lines below it
 pub record Effect : Type 0 where
@@ -66,6 +78,10 @@ effect_of net (commands.Close arc) =
     record { reply = replies.Closed arc; next = replaced net arc [] }
 effect_of net (commands.Ask ask) = record {
   reply = replies.Answered (session_ask ask) (answer_of net (session_ask ask));
+  next = net;
+}
+effect_of net (commands.Policy ask name) = record {
+  reply = replies.Stored (policy_file net ask name);
   next = net;
 }
 

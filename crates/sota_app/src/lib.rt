@@ -4,9 +4,11 @@
 mod input;
 mod inputs;
 pub mod laws;
+mod output;
 mod player;
 mod reply;
 mod status;
+mod stop;
 mod top;
 mod words;
 

@@ -1,35 +1,39 @@
 // Lines that are played: each is done and replied to before the next.
 ghost use Rattle.std.specs.Prelude.{◌≡◌, ◌≤◌, ◌<◌, ◌^◌, ◌∷◌, [], length};
-ghost use Rattle.std.specs.Prelude.{false, IfOk, OnErr, Some, option_to_list};
+ghost use Rattle.std.specs.Prelude.{false, IfOk, OnErr, Some};
 ghost use Rattle.sota_units.specs.Limits.{TEXT_LIMIT};
 ghost use Rattle.sota_units.specs.Memory.{AnswersBy};
 ghost use Rattle.sota_script.specs.Few.{HasFewPairs};
 ghost use Rattle.sota_script.specs.declared.command.Command.TheVariants.{Edit, Close};
-ghost use Rattle.sota_app.specs.Replies.{is_shortage, some_refused, replies_text, lines_status};
-ghost use Rattle.sota_app.specs.Replies.{Written, RepliesWritten};
+ghost use Rattle.sota_app.specs.Outputs.{Ends};
+ghost use Rattle.sota_app.specs.Replies.{is_shortage, outputs_of, lines_status, replies_status};
 ghost use Rattle.sota_app.specs.Script.{session_ask, command_result, result_step, step};
 ghost use Rattle.sota_app.specs.Script.{script_line, ask_on, script_lines, replies_to};
 ghost use Rattle.sota_app.specs.Inputs.{lines_of, IsShort};
 ghost use Rattle.sota_app.specs.declared.reply.Reply.TheVariants.{Refused};
 
 use crate::inputs::Script;
-use crate::reply::{Refusal, Reply};
+use crate::output::make_reply;
+use crate::reply::{NamedFile, Refusal, Reply};
 use crate::status::Status;
-use sota_edge::{Sink, SinkError, put_all};
+use crate::stop::Stop;
+use sota_edge::{Desk, Sink};
 use sota_hist::Histogram;
 use sota_network::Network;
+use sota_polfile::write_policy;
 use sota_script::{Ask3, Command, read_line};
-use sota_session::{Ask, Session};
+use sota_session::{Ask, AskFault, Session};
 use sota_text::Lines;
 use sota_units::{ArcId, Items, Mass, NoMemory, NodeId, Steps, Tick};
 use std::alloc::Global;
 use std::sync::ledger::{Blank, Ledger};
 
-/// Plays lines on the network of a session, and writes the replies to a sink.
+/// Plays lines on the network of a session, stores files on a desk and writes replies to a sink.
 #[derive(Drop)]
-struct Player<'s, 'o, 'm, 'p, O: Sink, M: Ledger, P: Ledger> {
+struct Player<'s, 'd, 'o, 'm, 'p, D: Desk, O: Sink, M: Ledger, P: Ledger> {
     alloc: Global,
     session: &'s mut Session,
+    desk: &'d mut D,
     out: &'o mut O,
     products: &'m mut Steps<M>,
     pushes: &'p mut Steps<P>,
@@ -69,23 +73,7 @@ fn lines_status(refused: bool) -> Status
     }
 }
 
-/// Writes the reply to a line, if there is one, and answers whether it is a refusal.
-fn write_reply<O: Sink>(alloc: Global, reply: Option<Reply>, out: &mut O) -> Result<bool, SinkError>
-    ensures { let replies = option_to_list reply in
-        Written (some_refused replies) result (replies_text replies)
-        (O.state out.old) (O.state out.new) }
-{
-    let Some(reply) = reply else {
-        return Ok(false);
-    };
-    let Ok(text) = reply.line(alloc) else {
-        return Err(SinkError::NoMemory);
-    };
-    put_all(out, text.as_bytes())?;
-    Ok(reply.is_refusal())
-}
-
-impl<O: Sink, M: Ledger, P: Ledger> Player<'_, '_, '_, '_, O, M, P> {
+impl<D: Desk, O: Sink, M: Ledger, P: Ledger> Player<'_, '_, '_, '_, '_, D, O, M, P> {
     /// Replaces the time of an arc by the one of these pairs. Where no pair has a positive mass it
     /// closes the arc.
     fn edit(&mut self, arc: ArcId, pairs: &Items<(Tick, Mass)>) -> Result<Reply, Refusal>
@@ -95,6 +83,7 @@ impl<O: Sink, M: Ledger, P: Ledger> Player<'_, '_, '_, '_, O, M, P> {
             result (command_result self.old.session.now.network (Edit arc pairs.now)) }
         ensures kept { OnErr result
             (self.new.session.now.network ≡ self.old.session.now.network) }
+        ensures desk { self.new.desk ≡ self.old.desk }
         ensures sink { self.new.out ≡ self.old.out }
         ensures pushes { self.new.pushes.ghost_name ≡ self.old.pushes.ghost_name }
     {
@@ -111,6 +100,7 @@ impl<O: Sink, M: Ledger, P: Ledger> Player<'_, '_, '_, '_, O, M, P> {
             result (command_result self.old.session.now.network (Close arc)) }
         ensures kept { OnErr result
             (self.new.session.now.network ≡ self.old.session.now.network) }
+        ensures desk { self.new.desk ≡ self.old.desk }
         ensures sink { self.new.out ≡ self.old.out }
         ensures pushes { self.new.pushes.ghost_name ≡ self.old.pushes.ghost_name }
     {
@@ -126,6 +116,7 @@ impl<O: Sink, M: Ledger, P: Ledger> Player<'_, '_, '_, '_, O, M, P> {
             result (command_result self.old.session.now.network command) }
         ensures kept { OnErr result
             (self.new.session.now.network ≡ self.old.session.now.network) }
+        ensures desk { self.new.desk ≡ self.old.desk }
         ensures sink { self.new.out ≡ self.old.out }
         ensures pushes { self.new.pushes.ghost_name ≡ self.old.pushes.ghost_name }
     {
@@ -138,6 +129,16 @@ impl<O: Sink, M: Ledger, P: Ledger> Player<'_, '_, '_, '_, O, M, P> {
                     .ask(session_ask(ask), self.products, self.pushes)?;
                 Ok(Reply::Answered(session_ask(ask), answer))
             }
+            Command::Policy { ask, name } => {
+                let table = self
+                    .session
+                    .policy(session_ask(ask), self.products, self.pushes)?;
+                let bytes = write_policy(self.alloc, &table).map_err(AskFault::from)?;
+                Ok(Reply::Stored(NamedFile {
+                    name,
+                    bytes: Items::new(bytes),
+                }))
+            }
         }
     }
 
@@ -148,6 +149,7 @@ impl<O: Sink, M: Ledger, P: Ledger> Player<'_, '_, '_, '_, O, M, P> {
             record { reply = Some reply; next = self.new.session.now.network }
             ≡ result_step self.old.session.now.network number
             (command_result self.old.session.now.network command)) }
+        ensures desk { self.new.desk ≡ self.old.desk }
         ensures sink { self.new.out ≡ self.old.out }
         ensures pushes { self.new.pushes.ghost_name ≡ self.old.pushes.ghost_name }
     {
@@ -163,6 +165,7 @@ impl<O: Sink, M: Ledger, P: Ledger> Player<'_, '_, '_, '_, O, M, P> {
         ensures reply { IfOk result (λ reply.
             record { reply = reply; next = self.new.session.now.network }
             ≡ step self.old.session.now.network (script_line (number, line.now))) }
+        ensures desk { self.new.desk ≡ self.old.desk }
         ensures sink { self.new.out ≡ self.old.out }
         ensures pushes { self.new.pushes.ghost_name ≡ self.old.pushes.ghost_name }
     {
@@ -175,20 +178,22 @@ impl<O: Sink, M: Ledger, P: Ledger> Player<'_, '_, '_, '_, O, M, P> {
 
     /// Plays lines. The status is that of all replies. It keeps nothing of the lines above but the
     /// network.
-    fn play(&mut self, script: &Script) -> Result<Status, SinkError>
+    fn play(&mut self, script: &Script) -> Result<Status, Stop>
         requires { IsShort script.now }
-        ensures written { RepliesWritten result
-            (replies_to self.old.session.now.network (lines_of script.now))
+        ensures made { Ends result
+            (outputs_of (replies_to self.old.session.now.network (lines_of script.now)))
+            (D.state self.old.desk.now) (D.state self.new.desk.now)
             (O.state self.old.out.now) (O.state self.new.out.now) }
+        ensures status { IfOk result (λ status. status
+            ≡ replies_status (replies_to self.old.session.now.network (lines_of script.now))) }
+        ensures desk { self.new.desk.ghost_name ≡ self.old.desk.ghost_name }
         ensures sink { self.new.out.ghost_name ≡ self.old.out.ghost_name }
         ensures pushes { self.new.pushes.ghost_name ≡ self.old.pushes.ghost_name }
     {
         match script {
             Script::Ask(ask) => {
-                let Ok(reply) = self.reply_to(1, Command::Ask(*ask)) else {
-                    return Err(SinkError::NoMemory);
-                };
-                let refused = write_reply(self.alloc, Some(reply), self.out)?;
+                let reply = self.reply_to(1, Command::Ask(*ask))?;
+                let refused = make_reply(self.alloc, Some(reply), self.desk, self.out)?;
                 Ok(lines_status(refused))
             }
             Script::Text(text) => {
@@ -196,10 +201,8 @@ impl<O: Sink, M: Ledger, P: Ledger> Player<'_, '_, '_, '_, O, M, P> {
                 let mut refused = false;
                 for line in Lines::new(bytes) {
                     let line_bytes = &bytes[line.span.from..line.span.to];
-                    let Ok(reply) = self.reply_to_line(line.number, line_bytes) else {
-                        return Err(SinkError::NoMemory);
-                    };
-                    refused |= write_reply(self.alloc, reply, self.out)?;
+                    let reply = self.reply_to_line(line.number, line_bytes)?;
+                    refused |= make_reply(self.alloc, reply, self.desk, self.out)?;
                 }
                 Ok(lines_status(refused))
             }
@@ -207,31 +210,34 @@ impl<O: Sink, M: Ledger, P: Ledger> Player<'_, '_, '_, '_, O, M, P> {
     }
 }
 
-/// Plays lines, each on the network that the lines above it left, and writes the replies. A line
-/// that is refused changes nothing, and the lines below it go on. The status is that of all
-/// replies. The products of the planning are counted with the blank's ledger.
-pub fn play_lines<O: Sink, M: Ledger, P: Ledger>(
+/// Plays lines, each on the network that the lines above it left. A line that is refused changes
+/// nothing, and the lines below it go on. Of a line that stores a file the reply is written only
+/// after the file is stored. The status is that of all replies. The products of the planning are
+/// counted with the blank's ledger.
+pub fn play_lines<D: Desk, O: Sink, M: Ledger, P: Ledger>(
     alloc: Global,
     network: Network,
     script: &Script,
+    desk: &mut D,
     out: &mut O,
     blank: Blank,
     pushes: &mut Steps<P>,
-) -> Result<Status, SinkError>
+) -> Result<Status, Stop>
     requires short { IsShort script.now }
     requires name { blank.name ≡ M.name }
     requires parts { blank.parts ≡ M.parts }
     requires some { 0 < blank.parts }
-    ensures { RepliesWritten result (replies_to network (lines_of script.now))
-        (O.state out.old) (O.state out.new) }
+    ensures made { Ends result (outputs_of (replies_to network (lines_of script.now)))
+        (D.state desk.old) (D.state desk.new) (O.state out.old) (O.state out.new) }
+    ensures status { IfOk result (λ status. status
+        ≡ replies_status (replies_to network (lines_of script.now))) }
 {
-    let Ok(mut session) = Session::new(alloc, network) else {
-        return Err(SinkError::NoMemory);
-    };
+    let mut session = Session::new(alloc, network)?;
     let mut products = Steps::<M>::new(blank);
     let mut player = Player {
         alloc,
         session: &mut session,
+        desk,
         out,
         products: &mut products,
         pushes,

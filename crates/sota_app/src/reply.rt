@@ -1,19 +1,26 @@
 // Replies to lines, and their texts.
-ghost use Rattle.std.specs.Prelude.{◌≡◌, ◌++◌, IfOk, OnOk};
+ghost use Rattle.std.specs.Prelude.{◌≡◌, ◌++◌, IfOk, OnOk, option_map};
 ghost use Rattle.sota_app.specs.Replies.{is_shortage, refusal_word, refusal_count};
 ghost use Rattle.sota_app.specs.Replies.{arc_text, count_text, answer_line, edited_line};
-ghost use Rattle.sota_app.specs.Replies.{closed_line};
-ghost use Rattle.sota_app.specs.Replies.{refused_line, reply_line, is_refusal};
+ghost use Rattle.sota_app.specs.Replies.{closed_line, stored_line, refused_line, reply_line};
+ghost use Rattle.sota_app.specs.Replies.{reply_file, is_refusal};
 
 use sota_hist::HistFault;
-use sota_script::LineFault;
+use sota_script::{FileName, LineFault};
 use sota_session::{Answer, Ask, AskFault, EditFault};
 use sota_text::TextOut;
-use sota_units::{ArcId, NoMemory, grain_text};
+use sota_units::{ArcId, Items, NoMemory, grain_text};
 use std::alloc::Global;
 
+/// A file that is to be stored.
+#[derive(Drop)]
+pub struct NamedFile {
+    pub name: FileName,
+    pub bytes: Items<u8>,
+}
+
 /// The reply to a line.
-#[derive(Clone, Copy, Debug, PartialEq, Eq)]
+#[derive(Drop)]
 pub enum Reply {
     /// An ask was answered.
     Answered(Ask, Answer),
@@ -21,6 +28,8 @@ pub enum Reply {
     Edited(ArcId),
     /// This arc was closed.
     Closed(ArcId),
+    /// This file was stored.
+    Stored(NamedFile),
     /// The line of this number was refused.
     Refused(u32, Refusal),
 }
@@ -179,6 +188,17 @@ fn write_closed(alloc: Global, arc: ArcId) -> Result<TextOut, NoMemory>
     Ok(text)
 }
 
+/// The line `stored NAME`.
+fn write_stored(alloc: Global, name: &str) -> Result<TextOut, NoMemory>
+    ensures { IfOk result (λ text. text ≡ stored_line name.now) }
+{
+    let mut text = TextOut::new(alloc);
+    text.bytes(b"stored ")?;
+    text.bytes(name.as_bytes())?;
+    text.bytes(b"\n")?;
+    Ok(text)
+}
+
 /// The line `refused LINE CAUSE`, with the count of a cause that has one.
 fn write_refused(alloc: Global, line: u32, refusal: &Refusal) -> Result<TextOut, NoMemory>
     ensures { IfOk result (λ text. text ≡ refused_line line refusal.now) }
@@ -202,7 +222,19 @@ impl Reply {
             Reply::Answered(ask, answer) => write_answer(alloc, ask, answer),
             Reply::Edited(arc) => write_edited(alloc, *arc),
             Reply::Closed(arc) => write_closed(alloc, *arc),
+            Reply::Stored(file) => write_stored(alloc, file.name.as_str()),
             Reply::Refused(line, refusal) => write_refused(alloc, *line, refusal),
+        }
+    }
+
+    /// The file that is to be stored before its line is written.
+    pub fn file(&self) -> Option<&NamedFile>
+        ensures { option_map (λ file. file.now) result ≡ reply_file self.now }
+    {
+        match self {
+            Reply::Stored(file) => Some(file),
+            Reply::Answered(_, _) | Reply::Edited(_) | Reply::Closed(_) => None,
+            Reply::Refused(_, _) => None,
         }
     }
 

@@ -525,24 +525,94 @@ fn wide_asks(rt: HostRuntime) -> Result<(), Fail> {
     Ok(())
 }
 
-// A line is written before the next is played, since the first stands though the second put fails.
+/// Whether a script of this one line stores these bytes under a name and replies so, over desks and
+/// sinks that cannot fail.
+fn stores(
+    alloc: Global,
+    texts: &Texts<'_>,
+    hists: &str,
+    name: &str,
+    bytes: &[u8],
+) -> Result<bool, Fail> {
+    let mut desk = SureDesk::new(alloc);
+    desk.insert("g", texts.graph.to_vec(alloc)?)?;
+    desk.insert("h", texts.hists.to_vec(alloc)?)?;
+    desk.insert("s", texts.script.to_vec(alloc)?)?;
+    let mut out = SureSink::new(alloc);
+    let line = format!(in alloc; "run g {hists} s")?;
+    let status = run_line(alloc, &line, &mut desk, &mut out)?;
+    let reply = format!(in alloc; "stored {name}\n")?;
+    let replied = status == Status::Done && out.written() == reply.as_bytes();
+    Ok(replied && desk.held(name) == Some(bytes))
+}
+
 #[test]
-fn a_put_fails_within_a_script(rt: HostRuntime) -> Result<(), Fail> {
+fn policies_are_stored(rt: HostRuntime) -> Result<(), Fail> {
     let alloc = rt.alloc();
-    let texts = Texts {
-        script: EDITED,
+    let triangle = Texts {
+        script: b"policy 1 3 3 p.pol",
         ..NET_A
     };
-    let mut desk = memory_desk(alloc, &texts, &[])?;
-    let mut out = MemorySink::new(alloc, 1000, [2].to_vec(alloc)?);
-    assert!(rt; run_line(alloc, "run g h s", &mut desk, &mut out)? == Status::WriteFault);
-    assert!(rt; out.written().len() == 57 && EDITED_REPLIES.starts_with(out.written()));
-    // Of a sink that takes one byte at a time, a put fails.
-    for fails in [1u32, 9, 57, 58] {
-        let mut out = MemorySink::new(alloc, 1, [fails].to_vec(alloc)?);
-        assert!(rt; run_line(alloc, "run g h s", &mut desk, &mut out)? == Status::WriteFault);
-        assert!(rt; out.written().len() + 1 == fails as usize);
-        assert!(rt; EDITED_REPLIES.starts_with(out.written()));
+    let triangle_policy = b"SOTAPOL1\0\0\0\x03\0\0\0\x03\0\0\0\x01\0\0\0\x03\0\0\0\x04\0\0\0\x02\
+\0\0\0\x01\0\0\0\x02\0\0\0\x02\
+\0\0\0\x01\x06\xf0\x5b\x59\xd3\xb2\0\0\
+\0\0\0\x03\x0a\x68\x89\x06\xbd\x8b\0\0\
+\0\0\0\x02\0\0\0\x01\0\0\0\x02\
+\0\0\0\x02\x06\xf0\x5b\x59\xd3\xb2\0\0\
+\0\0\0\x02\x06\xf0\x5b\x59\xd3\xb2\0\0"
+        .as_slice();
+    let road = Texts {
+        graph: b"p sp 2 1\na 1 2 5\n",
+        script: b"policy 1 2 5 q",
+        ..NET_A
+    };
+    let road_policy = b"SOTAPOL1\0\0\0\x02\0\0\0\x02\0\0\0\x01\0\0\0\x05\0\0\0\x01\0\0\0\x01\
+\0\0\0\x01\0\0\0\x05\0\0\0\x01\
+\0\0\0\x01\x0d\xe0\xb6\xb3\xa7\x64\0\0"
+        .as_slice();
+    assert!(rt; stores(alloc, &triangle, "h", "p.pol", triangle_policy)?);
+    assert!(rt; stores(alloc, &road, "-", "q", road_policy)?);
+    Ok(())
+}
+
+// The calls of a desk are counted together: of this script the first three load, the fourth stores.
+#[test]
+fn each_call_fails(rt: HostRuntime) -> Result<(), Fail> {
+    let alloc = rt.alloc();
+    let script = b"ask 1 3 2\nedit 2 1:4\nask 1 3 2\npolicy 1 3 3 p\n".as_slice();
+    let replies = b"answer 1 3 2 0.500000000000000000 0.500000000000000000 1
+edited 2
+answer 1 3 2 1.000000000000000000 1.000000000000000000 1
+stored p
+";
+    let texts = Texts { script, ..NET_A };
+    // The words, the call of the desk that fails, the most bytes of a put, the put that fails (0 for
+    // none), how many bytes are then written, the status, and whether the policy is stored.
+    let rows: [(&str, u32, u32, u32, usize, Status, bool); 14] = [
+        ("run g h s", 0, 1000, 0, 132, Status::Done, true),
+        ("run g h s", 1, 1000, 0, 0, Status::ReadFault, false),
+        ("run g h s", 2, 1000, 0, 0, Status::ReadFault, false),
+        ("run g h s", 3, 1000, 0, 0, Status::ReadFault, false),
+        ("run g h s", 4, 1000, 0, 123, Status::WriteFault, false),
+        ("run g h s", 0, 1000, 1, 0, Status::WriteFault, false),
+        ("run g h s", 0, 1000, 2, 57, Status::WriteFault, false),
+        ("run g h s", 0, 1000, 3, 66, Status::WriteFault, false),
+        ("run g h s", 0, 1000, 4, 123, Status::WriteFault, true),
+        ("run g h s", 0, 1, 1, 0, Status::WriteFault, false),
+        ("run g h s", 0, 1, 10, 9, Status::WriteFault, false),
+        ("run g h s", 0, 1, 58, 57, Status::WriteFault, false),
+        ("run g h s", 0, 1, 124, 123, Status::WriteFault, true),
+        ("", 0, 1000, 1, 0, Status::WriteFault, false),
+    ];
+    for (line, call, chunk, put, count, status, stored) in rows {
+        let mut desk = memory_desk(alloc, &texts, &[call])?;
+        let mut out = MemorySink::new(alloc, chunk, [put].to_vec(alloc)?);
+        let answer = run_line(alloc, line, &mut desk, &mut out)?;
+        let at = format!(in alloc; "call {call}, put {put} of {chunk}")?;
+        assert!(rt; answer == status, "{at}");
+        assert!(rt; out.written().len() == count, "{at}");
+        assert!(rt; replies.starts_with(out.written()), "{at}");
+        assert!(rt; desk.held("p").is_some() == stored, "{at}");
     }
     Ok(())
 }

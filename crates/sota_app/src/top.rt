@@ -1,19 +1,23 @@
 // The top call.
-ghost use Rattle.std.specs.Prelude.{◌≡◌, ◌≢◌, Some, map, string_bytes};
+ghost use Rattle.std.specs.Prelude.{◌≡◌, ◌≢◌, Some, Err, IfOk, map, string_bytes};
+ghost use Rattle.sota_edge.specs.Counts.{Rose};
 ghost use Rattle.sota_edge.specs.Desk.{Files};
+ghost use Rattle.sota_app.specs.Outputs.{LineEnds};
 ghost use Rattle.sota_app.specs.Words.{request_of};
 ghost use Rattle.sota_app.specs.Inputs.{NoInputWritten};
-ghost use Rattle.sota_app.specs.Outcome.{outcome};
+ghost use Rattle.sota_app.specs.Outcome.{outcome, refused_words};
 ghost use Rattle.sota_app.specs.Causes.{Ended, Delivered, NoFault, status_of};
 ghost use Rattle.sota_app.specs.Meaning.{AskLine, IsAnswered, Meant};
 
 use crate::input::NoInput;
 use crate::inputs::{Task, load_task};
+use crate::output::write_line;
 use crate::player::play_lines;
 use crate::status::Status;
+use crate::stop::Stop;
 use crate::words::read_words;
 use sota_dimacs::laws::texts_mean_graphs;
-use sota_edge::{Desk, Sink, SinkError, put_all};
+use sota_edge::{Desk, Sink, put_all};
 use sota_hist::laws::built_times;
 use sota_histcsv::laws::texts_mean_networks;
 use sota_network::laws::{edits_keep_networks, grid_encloses};
@@ -22,16 +26,24 @@ use std::alloc::Global;
 use std::marker::Brand;
 use std::sync::ledger::{Blank, Ledger};
 
+/// Refuses words that are no request.
+fn refuse_words<O: Sink>(out: &mut O) -> Result<Status, Stop>
+    ensures line { LineEnds result refused_words (O.state out.old) (O.state out.new) }
+    ensures status { IfOk result (λ status. status ≡ Status.Words) }
+    ensures memory { result ≡ Err Stop.NoMemory
+        → Rose (O.state out.old).shortages (O.state out.new).shortages }
+{
+    put_all(out, b"refused words\n")?;
+    Ok(Status::Words)
+}
+
 /// Writes what is to be written where there is no input, and gives the status of that.
-fn refuse_input<O: Sink>(alloc: Global, end: NoInput, out: &mut O) -> Result<Status, SinkError>
+fn refuse_input<O: Sink>(alloc: Global, end: NoInput, out: &mut O) -> Result<Status, Stop>
     ensures { NoInputWritten end result (O.state out.old) (O.state out.new) }
 {
     match end {
         NoInput::Fault(fault) => {
-            let Ok(text) = fault.line(alloc) else {
-                return Err(SinkError::NoMemory);
-            };
-            put_all(out, text.as_bytes())?;
+            write_line(&fault.line(alloc)?, out)?;
             Ok(Status::Input)
         }
         NoInput::Unread => Ok(Status::ReadFault),
@@ -46,23 +58,29 @@ fn serve<D: Desk, O: Sink, P: Ledger>(
     desk: &mut D,
     out: &mut O,
     pushes: &mut Steps<P>,
-) -> Result<Status, SinkError>
+) -> Result<Status, Stop>
     ensures { Ended (status_of result) (request_of (map string_bytes words.now))
         (D.state desk.old) (D.state desk.new) (O.state out.old) (O.state out.new) }
 {
     let Some(request) = read_words(words) else {
-        put_all(out, b"refused words\n")?;
-        return Ok(Status::Words);
+        return refuse_words(out);
     };
     match load_task(alloc, &request, desk) {
-        Ok(Task { network, script }) => {
-            play_lines::<O, Brand, P>(alloc, network, &script, out, Blank::new(1), pushes)
-        }
+        Ok(Task { network, script }) => play_lines::<D, O, Brand, P>(
+            alloc,
+            network,
+            &script,
+            desk,
+            out,
+            Blank::new(1),
+            pushes,
+        ),
         Err(end) => refuse_input(alloc, end, out),
     }
 }
 
-/// Reads the words after the program's name and the files that they name, and writes the replies.
+/// Reads the words after the program's name and the files that they name, stores the files that
+/// lines ask for, and writes the replies.
 /// `pushes` is for entries that planning pushes to its tables; nothing is promised of it yet.
 pub fn run<D: Desk, O: Sink, P: Ledger>(
     alloc: Global,
@@ -71,8 +89,8 @@ pub fn run<D: Desk, O: Sink, P: Ledger>(
     out: &mut O,
     pushes: &mut Steps<P>,
 ) -> Status
-    // Whatever happens, the status has its cause, what is written begins the text of the outcome,
-    // and nothing is stored.
+    // Whatever happens, the status has its cause, some first outputs of the outcome are made, and at
+    // most the next one is begun.
     ensures ended { Ended result (request_of (map string_bytes words.now))
         (D.state desk.old) (D.state desk.new) (O.state out.old) (O.state out.new) }
 
@@ -98,7 +116,7 @@ pub fn run<D: Desk, O: Sink, P: Ledger>(
     grid_encloses();
     match serve(alloc, words, desk, out, pushes) {
         Ok(status) => status,
-        Err(SinkError::Failed) => Status::WriteFault,
-        Err(SinkError::NoMemory) => Status::NoMemory,
+        Err(Stop::PutFailed | Stop::StoreFailed) => Status::WriteFault,
+        Err(Stop::NoMemory) => Status::NoMemory,
     }
 }

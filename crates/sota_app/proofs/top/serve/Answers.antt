@@ -1,24 +1,35 @@
-use Rattle.std.proofs.Common.{rules, ◌≡◌, List, ℕ, Option, Some, map, string_bytes, subst}
+use Rattle.std.proofs.Common.{rules, ◌≡◌, List, ℕ, Option, Some, None, map, string_bytes, subst}
 use Rattle.sota_edge.specs.Desk.{DeskState}
 use Rattle.sota_edge.specs.Sink.{SinkState}
 use Rattle.sota_app.specs.Words.{request_of}
 use Rattle.sota_app.specs.Inputs.{task_work}
 use Rattle.sota_app.specs.Causes.{Ended, status_of}
 use Rattle.sota_app.specs.declared.words.Request.{Request}
-use Rattle.sota_app.proofs.Ends.{ok_ended, err_ended}
+use Rattle.sota_app.proofs.Ends.{ok_ended, err_ended, words_ended}
 use Rattle.sota_app.proofs.top.serve.Goals as goal
+
+pub returns-in_default : goal.returns-in_default
+returns-in_default g c =
+    let words : List (List ℕ) = map (λ word. string_bytes word) c.args.words.now in
+    let none : request_of words ≡ None = search rules in
+    let d : DeskState = g.D.Desk.state c.args.desk.now in
+    let s : SinkState = g.O.Sink.state c.args.out.now in
+    let t : SinkState = g.O.Sink.state c.refuse_words.new.out in
+    rw none (words_ended c.refuse_words.result d s t c.refuse_words.ensures.line
+    c.refuse_words.ensures.status c.refuse_words.ensures.memory)
 
 pub returns-in-Ok : goal.returns-in-Ok
 returns-in-Ok g c =
     let words : List (List ℕ) = map (λ word. string_bytes word) c.args.words.now in
     let is : Some c.in-Some.request ≡ request_of words = search rules in
     let d : DeskState = g.D.Desk.state c.args.desk.now in
-    let e : DeskState = g.D.Desk.state c.load_task.new.desk in
+    let m : DeskState = g.D.Desk.state c.load_task.new.desk in
+    let e : DeskState = g.D.Desk.state c.play_lines.new.desk in
     let s : SinkState = g.O.Sink.state c.args.out.now in
     let t : SinkState = g.O.Sink.state c.play_lines.new.out in
     subst (λ (o : Option Request). Ended (status_of c.play_lines.result) o d e s t) is
-    (ok_ended task_work c.in-Some.request c.in-Ok.field-0 c.play_lines.result d e s t
-    c.in-Ok.ensures.read c.play_lines.ensures)
+    (ok_ended task_work c.in-Some.request c.in-Ok.field-0 c.play_lines.result d m e s t
+    c.in-Ok.ensures.read c.play_lines.ensures.made c.play_lines.ensures.status)
 
 pub returns-in-Err : goal.returns-in-Err
 returns-in-Err g c =

@@ -1,86 +1,121 @@
-use Rattle.std.proofs.Common.{rules, ◌≡◌, map, List, Err, refl, sym, ◌∙◌, subst}
+use Rattle.std.proofs.Common.{rules, ◌≡◌, [], map, List, Err, refl, sym, ◌∙◌, subst}
 use Rattle.std.proofs.lemmas.List.{map-append}
-use Rattle.sota_edge.specs.Sink.{SinkState, WrotePrefix}
-use Rattle.sota_edge.specs.declared.sink.SinkError.{SinkError}
-use Rattle.sota_app.specs.Replies.{replies_text, RepliesWritten}
-use Rattle.sota_app.specs.Script.{ScriptLine, script_lines, replies_to}
+use Rattle.sota_edge.specs.Desk.{DeskState}
+use Rattle.sota_edge.specs.Sink.{SinkState}
+use Rattle.sota_app.specs.Outputs.{Stopped}
+use Rattle.sota_app.specs.Script.{ScriptLine, script_lines}
 use Rattle.sota_app.specs.Inputs.{lines_of}
-use Rattle.sota_app.proofs.Reaches.{reach_none, reach_more, ends_at, ends_before}
+use Rattle.sota_app.specs.declared.stop.Stop.{Stop}
+use Rattle.sota_app.specs.declared.stop.Stop.TheVariants as stops
+use Rattle.sota_app.proofs.Made.{nothing_made}
+use Rattle.sota_app.proofs.Reaches.{outputs_to, reach_none, still_reached, reach_more}
+use Rattle.sota_app.proofs.Reaches.{stops_at, stops_before}
 use Rattle.sota_app.proofs.Lines.{line_at, all_lines, line_played}
 use Rattle.sota_app.proofs.player.Player.play.Goals as goal
+
+pub returns-in_err-reply-in-Ask-clause-made : goal.returns-in_err-reply-in-Ask-clause-made
+returns-in_err-reply-in-Ask-clause-made g c =
+    let is : c.from_residual.result ≡ Err stops.NoMemory = search rules in
+    let d : DeskState = g.D.Desk.state c.args.self.now.desk.now in
+    let e : DeskState = g.D.Desk.state c.reply_to.new.self.desk.now in
+    let s : SinkState = g.O.Sink.state c.args.self.now.out.now in
+    let t : SinkState = g.O.Sink.state c.reply_to.new.self.out.now in
+    let desk : e ≡ d = search rules in
+    let sink : t ≡ s = search rules in
+    rw is (nothing_made (outputs_to c.args.self.now.session.now.network
+    (lines_of c.args.script.now)) d e s t desk sink)
 
 pub loop-line-init : goal.loop-line-init
 loop-line-init g c = record {
   within = search rules;
   lines = rw c.into_iter-line-iterator.ensures.into_iter_gives
       (all_lines _ _ c.new-line-items.ensures.texts);
+  desk = refl;
   sink = refl;
   pushes = refl;
-  reached = reach_none _ _;
+  reached = reach_none _ _ _;
 }
 
-pub returns-in_default-reply_to_line-clause-written :
-    goal.returns-in_default-reply_to_line-clause-written
-returns-in_default-reply_to_line-clause-written g c =
+pub returns-in_err-reply-in-Text-clause-made : goal.returns-in_err-reply-in-Text-clause-made
+returns-in_err-reply-in-Text-clause-made g c =
     let bytes = c.as_slice-bytes.result.now in
-    let lines = rw c.in-Some.ensures.steps at c.loop-line.invariant.lines in
     let all : script_lines bytes ≡ lines_of c.args.script.now = search rules in
-    let from : SinkState = g.O.Sink.state c.args.self.now.out.now in
-    let to : SinkState = g.O.Sink.state c.loop-line.self.out.now in
-    let new : SinkState = g.O.Sink.state c.reply_to_line.new.self.out.now in
-    let same : new ≡ to = search rules in
-    subst (λ (lines : List ScriptLine).
-    WrotePrefix (replies_text (replies_to c.args.self.now.session.now.network lines)) from new)
-    (sym lines ∙ all)
-    (ends_before (map (line_at bytes) c.loop-line.yielded) (line_at bytes c.in-Some.line)
-    (map (line_at bytes) c.next.new.self) c.args.self.now.session.now.network
-    c.loop-line.self.session.now.network
-    c.loop-line.refused from to new c.loop-line.invariant.reached same)
-
-pub returns-in_err-refused-in-Text-clause-written :
-    goal.returns-in_err-refused-in-Text-clause-written
-returns-in_err-refused-in-Text-clause-written g c =
-    let bytes = c.as_slice-bytes.result.now in
-    let lines = rw c.in-Some.ensures.steps at c.loop-line.invariant.lines in
-    let all : script_lines bytes ≡ lines_of c.args.script.now = search rules in
-    let from : SinkState = g.O.Sink.state c.args.self.now.out.now in
-    let to : SinkState = g.O.Sink.state c.loop-line.self.out.now in
-    let mid : SinkState = g.O.Sink.state c.reply_to_line.new.self.out.now in
-    let new : SinkState = g.O.Sink.state c.write_reply-in-loop-line.new.out in
-    let same : mid ≡ to = search rules in
-    let error : SinkError = c.in_err-refused-in-Text.field-0.0 in
-    let is : c.from_residual-in_err-refused-in-Text.result ≡ Err error = search rules in
+    let is : c.from_residual-in_err-reply-in-Text.result ≡ Err stops.NoMemory = search rules in
+    let d : DeskState = g.D.Desk.state c.args.self.now.desk.now in
+    let m : DeskState = g.D.Desk.state c.loop-line.self.desk.now in
+    let e : DeskState = g.D.Desk.state c.reply_to_line.new.self.desk.now in
+    let s : SinkState = g.O.Sink.state c.args.self.now.out.now in
+    let u : SinkState = g.O.Sink.state c.loop-line.self.out.now in
+    let t : SinkState = g.O.Sink.state c.reply_to_line.new.self.out.now in
+    let desk : e ≡ m = search rules in
+    let sink : t ≡ u = search rules in
+    let net = c.args.self.now.session.now.network in
     rw is (subst (λ (lines : List ScriptLine).
-    RepliesWritten (Err error) (replies_to c.args.self.now.session.now.network lines) from new)
+    Stopped stops.NoMemory (outputs_to net lines) d e s t)
+    (sym c.loop-line.invariant.lines ∙ all)
+    (stops_before stops.NoMemory (map (line_at bytes) c.loop-line.yielded)
+    (map (line_at bytes) c.loop-line.line-iterator) net c.loop-line.self.session.now.network
+    c.loop-line.refused d m e s u t c.loop-line.invariant.reached
+    (nothing_made [] m e u t desk sink)))
+
+pub returns-in_err-refused-in-Text-clause-made : goal.returns-in_err-refused-in-Text-clause-made
+returns-in_err-refused-in-Text-clause-made g c =
+    let bytes = c.as_slice-bytes.result.now in
+    let lines = rw c.in-Some.ensures.steps at c.loop-line.invariant.lines in
+    let all : script_lines bytes ≡ lines_of c.args.script.now = search rules in
+    let d : DeskState = g.D.Desk.state c.args.self.now.desk.now in
+    let m : DeskState = g.D.Desk.state c.loop-line.self.desk.now in
+    let n : DeskState = g.D.Desk.state c.reply_to_line.new.self.desk.now in
+    let e : DeskState = g.D.Desk.state c.make_reply-in-loop-line.new.desk in
+    let s : SinkState = g.O.Sink.state c.args.self.now.out.now in
+    let u : SinkState = g.O.Sink.state c.loop-line.self.out.now in
+    let v : SinkState = g.O.Sink.state c.reply_to_line.new.self.out.now in
+    let t : SinkState = g.O.Sink.state c.make_reply-in-loop-line.new.out in
+    let desk : n ≡ m = search rules in
+    let sink : v ≡ u = search rules in
+    let net = c.args.self.now.session.now.network in
+    let now = c.loop-line.self.session.now.network in
+    let before = map (line_at bytes) c.loop-line.yielded in
+    let stop : Stop = c.in_err-refused-in-Text.field-0.0 in
+    let is : c.from_residual-in_err-refused-in-Text.result ≡ Err stop = search rules in
+    rw is (subst (λ (lines : List ScriptLine). Stopped stop (outputs_to net lines) d e s t)
     (sym lines ∙ all)
-    (ends_at error (map (line_at bytes) c.loop-line.yielded) (line_at bytes c.in-Some.line)
-    (map (line_at bytes) c.next.new.self) c.args.self.now.session.now.network
-    c.loop-line.self.session.now.network
-    c.reply_to_line.new.self.session.now.network c.loop-line.refused
-    c.in-Ok-reply_to_line.reply from to mid new
-    c.loop-line.invariant.reached same c.in-Ok-reply_to_line.ensures.reply
-    c.in_err-refused-in-Text.ensures))
+    (stops_at stop before (line_at bytes c.in-Some.line) (map (line_at bytes) c.next.new.self)
+    net now c.reply_to_line.new.self.session.now.network c.loop-line.refused
+    c.in_ok-reply-in-Text.reply d n e s v t
+    (still_reached before net now c.loop-line.refused d m n s u v desk sink
+    c.loop-line.invariant.reached)
+    c.in_ok-reply-in-Text.ensures.reply c.in_err-refused-in-Text.ensures.made))
 
 pub loop-line-preserved : goal.loop-line-preserved
 loop-line-preserved g c =
     let bytes = c.as_slice-bytes.result.now in
     let lines = rw c.in-Some.ensures.steps at c.loop-line.invariant.lines in
     let within = rw c.in-Some.ensures.steps at c.loop-line.invariant.within in
-    let from : SinkState = g.O.Sink.state c.args.self.now.out.now in
-    let to : SinkState = g.O.Sink.state c.loop-line.self.out.now in
-    let mid : SinkState = g.O.Sink.state c.reply_to_line.new.self.out.now in
-    let new : SinkState = g.O.Sink.state c.write_reply-in-loop-line.new.out in
-    let same : mid ≡ to = search rules in
+    let d : DeskState = g.D.Desk.state c.args.self.now.desk.now in
+    let m : DeskState = g.D.Desk.state c.loop-line.self.desk.now in
+    let n : DeskState = g.D.Desk.state c.reply_to_line.new.self.desk.now in
+    let e : DeskState = g.D.Desk.state c.make_reply-in-loop-line.new.desk in
+    let s : SinkState = g.O.Sink.state c.args.self.now.out.now in
+    let u : SinkState = g.O.Sink.state c.loop-line.self.out.now in
+    let v : SinkState = g.O.Sink.state c.reply_to_line.new.self.out.now in
+    let t : SinkState = g.O.Sink.state c.make_reply-in-loop-line.new.out in
+    let desk : n ≡ m = search rules in
+    let sink : v ≡ u = search rules in
+    let net = c.args.self.now.session.now.network in
+    let now = c.loop-line.self.session.now.network in
     let before = map (line_at bytes) c.loop-line.yielded in
     record {
       within = within.1;
       lines = line_played bytes c.loop-line.yielded c.in-Some.line c.next.new.self _ lines;
+      desk = search rules;
       sink = search rules;
       pushes = search rules;
-      reached = rw map-append (reach_more before (line_at bytes c.in-Some.line)
-          c.args.self.now.session.now.network c.loop-line.self.session.now.network
-          c.reply_to_line.new.self.session.now.network
-          c.loop-line.refused c.in_ok-refused-in-Text.field-0 c.in-Ok-reply_to_line.reply
-          from to mid new c.loop-line.invariant.reached same c.in-Ok-reply_to_line.ensures.reply
-          c.in_ok-refused-in-Text.ensures);
+      reached = rw map-append (reach_more before (line_at bytes c.in-Some.line) net now
+          c.reply_to_line.new.self.session.now.network c.loop-line.refused
+          c.in_ok-refused-in-Text.field-0 c.in_ok-reply-in-Text.reply d n e s v t
+          (still_reached before net now c.loop-line.refused d m n s u v desk sink
+          c.loop-line.invariant.reached)
+          c.in_ok-reply-in-Text.ensures.reply c.in_ok-refused-in-Text.ensures.made
+          c.in_ok-refused-in-Text.ensures.refused);
     }

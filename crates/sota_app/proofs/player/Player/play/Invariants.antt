@@ -6,15 +6,17 @@ use Rattle.sota_app.proofs.Reaches.{Reached}
 use Rattle.sota_app.proofs.Lines.{line_at}
 use Rattle.sota_app.proofs.player.Player.play.Given as goal
 
--- the lines so far are played, and the player writes where it wrote
+-- the lines so far are played, and the player stores and writes where it did
 abbrev pub invariant-loop-line : goal.invariant-loop-line
 invariant-loop-line g l = record {
   within : AreWithin l.bytes (map (λ (line : Line). line.span) l.line-iterator);
   lines : script_lines l.bytes
       ≡ map (line_at l.bytes) l.yielded ++ map (line_at l.bytes) l.line-iterator;
+  desk : l.self.desk.ghost_name ≡ l.fn.self.desk.ghost_name;
   sink : l.self.out.ghost_name ≡ l.fn.self.out.ghost_name;
   pushes : l.self.pushes.ghost_name ≡ l.fn.self.pushes.ghost_name;
   reached : Reached (map (line_at l.bytes) l.yielded) l.fn.self.session.now.network
       l.self.session.now.network l.refused
+      (g.D.Desk.state l.fn.self.desk.now) (g.D.Desk.state l.self.desk.now)
       (g.O.Sink.state l.fn.self.out.now) (g.O.Sink.state l.self.out.now);
 }
