@@ -1,0 +1,9 @@
+//! The words of a seeded generator, and numbers drawn from them.
+#![tactic(auto)]
+
+mod words;
+
+pub use words::Words;
+
+#[cfg(test)]
+mod tests;
