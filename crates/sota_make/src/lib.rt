@@ -1,0 +1,12 @@
+//! Networks that are made of the words of a seed, to try the planner on.
+#![tactic(auto)]
+
+mod arcs;
+pub mod laws;
+mod make;
+mod times;
+
+pub use make::{MakeFault, make_network};
+
+#[cfg(test)]
+mod tests;
