@@ -3,6 +3,7 @@
 
 mod ask;
 mod edit;
+pub mod laws;
 mod plan;
 mod session;
 #[cfg(test)]

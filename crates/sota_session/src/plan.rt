@@ -1,13 +1,17 @@
 // What is planned for an ask, and its policy.
 ghost use Rattle.std.specs.Prelude.{◌≡◌, ◌+◌, ◌-◌, ◌≤◌, All, map, IfOk, IfSome};
 ghost use Rattle.std.specs.List.{filter_map, range_with_len};
+ghost use Rattle.sota_network.specs.Grid.{lo};
 ghost use Rattle.sota_polfile.specs.Entry.{IsEntry};
+ghost use Rattle.sota_check.specs.Certified.{IsCertified, value};
 ghost use Rattle.sota_session.specs.Asks.{IsInRange};
 ghost use Rattle.sota_session.specs.Plans.{plan_table};
 ghost use Rattle.sota_session.specs.Rows.{IsPlan, Agrees, entry_in, row_in};
 
 use crate::ask::Ask;
+use crate::laws::plans_by_least_times;
 use sota_bounds::AskRegion;
+use sota_check::laws::{plans_hold, rows_make_plans};
 use sota_network::laws::{lists_by_number, region_by_least_times};
 use sota_network::{Grid, Network};
 use sota_polfile::{PolicyEntries, PolicyEntry, PolicyHead, PolicyRow, PolicyTable};
@@ -30,10 +34,16 @@ pub(crate) fn policy_of(
 ) -> Result<PolicyTable, NoMemory>
     requires in_range { IsInRange network.now ask.now }
     requires plan { IsPlan plan.now network.now ask.now }
-    ensures { IfOk result (λ table. table ≡ plan_table network.now ask.now) }
+    ensures file { IfOk result (λ table. table ≡ plan_table network.now ask.now) }
+    ensures certified { IfOk result (λ table. IsCertified network.now table) }
+    ensures bound { IfOk result (λ table. value table ask.now.origin ask.now.budget
+        ≡ lo network.now ask.now.dest ask.now.origin ask.now.budget) }
 {
     lists_by_number();
     region_by_least_times();
+    plans_by_least_times();
+    rows_make_plans();
+    plans_hold();
     let rows = rows_of(alloc, network, plan)?;
     let head = PolicyHead {
         nodes: network.nodes(),

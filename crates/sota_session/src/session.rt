@@ -3,6 +3,8 @@ ghost use Rattle.std.specs.Prelude.{◌≡◌, ◌≤◌, ◌↔◌, None, Err, 
 ghost use Rattle.sota_units.specs.Memory.{Unless};
 ghost use Rattle.sota_hist.specs.Time.{total};
 ghost use Rattle.sota_network.specs.Network.{IsNet, arc_at, replaced};
+ghost use Rattle.sota_network.specs.Grid.{lo};
+ghost use Rattle.sota_check.specs.Certified.{IsCertified, value};
 ghost use Rattle.sota_session.specs.Asks.{range_fault, size_fault, answer_of, IsInRange};
 ghost use Rattle.sota_session.specs.Plans.{plan_table};
 ghost use Rattle.sota_session.specs.Rows.{IsPlan};
@@ -104,6 +106,9 @@ impl Session {
             (refusal_of is_of_size result ≡ size_fault self.old.network ask) }
         ensures memory { result ≡ Err asks.NoMemory → IsInRange self.old.network ask }
         ensures file { IfOk result (λ table. table ≡ plan_table self.old.network ask) }
+        ensures certified { IfOk result (λ table. IsCertified self.old.network table) }
+        ensures bound { IfOk result (λ table. value table ask.origin ask.budget
+            ≡ lo self.old.network ask.dest ask.origin ask.budget) }
         ensures kept { self.new ≡ self.old }
         ensures valid { IsNet self.new.network }
     {

@@ -1,24 +1,44 @@
-// Each call once with ample memory, on a network of one road.
+// Each call once with ample memory, on a network of one road, and policies of two small networks.
 ghost use Rattle.std.specs.Prelude.{◌≡◌, ◌≤◌, ◌<◌};
 
 use crate::{Answer, Ask, AskFault, EditFault, Session};
 use sota_hist::Histogram;
 use sota_network::{Arc, Network};
-use sota_units::{ArcId, Grain, NoMemory, NodeId, Scale, Steps, Tick};
+use sota_polfile::{PolicyTable, write_policy};
+use sota_units::{ArcId, Grain, Mass, NoMemory, NodeId, Scale, Steps, Tick};
 use std::alloc::Global;
 use std::marker::Brand;
 use std::sync::ledger::{Blank, Ledger};
 use std::test::Fail;
 
-/// A road from node 1 to node 2 that takes two ticks.
-fn one_road(alloc: Global) -> Result<Network, NoMemory> {
+/// A road from node 1 to node 2 that takes so many ticks.
+fn one_road(alloc: Global, tick: u32) -> Result<Network, NoMemory>
+    requires { 1 ≤ tick }
+{
     let mut arcs = Vec::new(alloc);
+    let (tail, head) = (NodeId(1), NodeId(2));
+    arcs.push(Arc::certain(alloc, tail, head, Scale::ONE, Tick(tick))?)?;
+    Network::build(alloc, 2, Scale::ONE, arcs)
+}
+
+/// Node 1 leads to 3 by way of 2 or directly. The road from 1 to 2 takes one tick.
+fn triangle(alloc: Global) -> Result<Network, Fail> {
+    let scale = Scale::new(4).ok_or("a scale")?;
+    let late = [(Tick(1), Mass(2)), (Tick(3), Mass(2))];
+    let direct = [(Tick(3), Mass(3)), (Tick(5), Mass(1))];
+    let mut arcs = Vec::new(alloc);
+    arcs.push(Arc::certain(alloc, NodeId(1), NodeId(2), scale, Tick(1))?)?;
+    arcs.push(Arc {
+        tail: NodeId(2),
+        head: NodeId(3),
+        time: Histogram::build(alloc, scale, &late)?,
+    })?;
     arcs.push(Arc {
         tail: NodeId(1),
-        head: NodeId(2),
-        time: Histogram::certain(alloc, Scale::ONE, Tick(2))?,
+        head: NodeId(3),
+        time: Histogram::build(alloc, scale, &direct)?,
     })?;
-    Network::build(alloc, 2, Scale::ONE, arcs)
+    Ok(Network::build(alloc, 3, scale, arcs)?)
 }
 
 fn ask_counted<M: Ledger, P: Ledger>(
@@ -47,6 +67,37 @@ fn ask(session: &mut Session, origin: u32, dest: u32, budget: u32) -> Result<Ans
     ask_counted::<Brand, Brand>(session, ask, Blank::new(1), Blank::new(1))
 }
 
+fn policy_counted<M: Ledger, P: Ledger>(
+    session: &mut Session,
+    ask: Ask,
+    products: Blank,
+    pushes: Blank,
+) -> Result<PolicyTable, AskFault>
+    requires products { (products.name ≡ M.name) × (products.parts ≡ M.parts)
+        × (0 < products.parts) }
+    requires pushes { (pushes.name ≡ P.name) × (pushes.parts ≡ P.parts)
+        × (0 < pushes.parts) }
+{
+    let mut products = Steps::<M>::new(products);
+    let mut pushes = Steps::<P>::new(pushes);
+    session.policy(ask, &mut products, &mut pushes)
+}
+
+/// The bytes of the policy of an ask.
+fn policy(
+    alloc: Global,
+    session: &mut Session,
+    (origin, dest, budget): (u32, u32, u32),
+) -> Result<Vec<u8>, AskFault> {
+    let ask = Ask {
+        origin: NodeId(origin),
+        dest: NodeId(dest),
+        budget,
+    };
+    let table = policy_counted::<Brand, Brand>(session, ask, Blank::new(1), Blank::new(1))?;
+    Ok(write_policy(alloc, &table)?)
+}
+
 /// Gives an arc a certain time.
 fn edit(alloc: Global, session: &mut Session, arc: u32, tick: u32) -> Result<(), EditFault>
     requires { 1 ≤ tick }
@@ -65,7 +116,7 @@ fn close(alloc: Global, session: &mut Session, arc: u32) -> Result<(), EditFault
 
 #[test]
 fn asks_and_edits(rt: HostRuntime) -> Result<(), Fail> {
-    let mut session = Session::new(rt.alloc(), one_road(rt.alloc())?)?;
+    let mut session = Session::new(rt.alloc(), one_road(rt.alloc(), 2)?)?;
     let late = Answer {
         lower: Grain::ZERO,
         upper: Grain::ZERO,
@@ -90,9 +141,94 @@ fn asks_and_edits(rt: HostRuntime) -> Result<(), Fail> {
     Ok(())
 }
 
+// The triangle's policy from 1 to 3 in 3 ticks, in numbers of four bytes: two rows of two entries.
+const TRIANGLE: [u32; 26] = [
+    0x534f_5441,
+    0x504f_4c31,
+    3,
+    3,
+    1,
+    3,
+    4,
+    2,
+    1,
+    2,
+    2,
+    1,
+    0x06f0_5b59,
+    0xd3b2_0000,
+    3,
+    0x0a68_8906,
+    0xbd8b_0000,
+    2,
+    1,
+    2,
+    2,
+    0x06f0_5b59,
+    0xd3b2_0000,
+    2,
+    0x06f0_5b59,
+    0xd3b2_0000,
+];
+
+// One road of 5 ticks that is always in time.
+const SURE: [u32; 14] = [
+    0x534f_5441,
+    0x504f_4c31,
+    2,
+    2,
+    1,
+    5,
+    1,
+    1,
+    1,
+    5,
+    1,
+    1,
+    0x0de0_b6b3,
+    0xa764_0000,
+];
+
+// Who is there already, or cannot be in time, has no row.
+const THERE: [u32; 8] = [0x534f_5441, 0x504f_4c31, 2, 2, 2, 5, 1, 0];
+
+const LATE: [u32; 8] = [0x534f_5441, 0x504f_4c31, 2, 2, 1, 4, 1, 0];
+
+/// The bytes of numbers of four bytes.
+fn bytes_of(alloc: Global, numbers: &[u32]) -> Result<Vec<u8>, NoMemory> {
+    let mut bytes = Vec::new(alloc);
+    for number in numbers {
+        bytes.extend_from_slice(&number.to_be_bytes())?;
+    }
+    Ok(bytes)
+}
+
+#[test]
+fn policies(rt: HostRuntime) -> Result<(), Fail> {
+    let alloc = rt.alloc();
+    let mut session = Session::new(alloc, triangle(alloc)?)?;
+    let file = policy(alloc, &mut session, (1, 3, 3))?;
+    assert!(rt; file.as_slice() == bytes_of(alloc, &TRIANGLE)?.as_slice());
+    let mut session = Session::new(alloc, one_road(alloc, 5)?)?;
+    let files = [
+        ((1, 2, 5), SURE.as_slice()),
+        ((2, 2, 5), THERE.as_slice()),
+        ((1, 2, 4), LATE.as_slice()),
+    ];
+    for (ask, numbers) in files {
+        let file = policy(alloc, &mut session, ask)?;
+        assert!(rt; file.as_slice() == bytes_of(alloc, numbers)?.as_slice());
+    }
+    assert_eq!(rt;
+        policy(alloc, &mut session, (1, 3, 5)).err(),
+        Some(AskFault::NoDest)
+    );
+    Ok(())
+}
+
 #[test]
 fn refused_asks(rt: HostRuntime) -> Result<(), Fail> {
-    let mut session = Session::new(rt.alloc(), one_road(rt.alloc())?)?;
+    let mut session = Session::new(rt.alloc(), one_road(rt.alloc(), 2)?)?;
     let refused = [
         (3, 0, 65536, AskFault::NoOrigin),
         (0, 1, 0, AskFault::NoOrigin),
