@@ -1,5 +1,5 @@
 // The judgement of a policy.
-ghost use Rattle.std.specs.Prelude.{◌≡◌, ◌*◌, ◌^◌, ◌≤◌, ◌↔◌, IsOk, IfOk, IfErr, Some};
+ghost use Rattle.std.specs.Prelude.{◌≡◌, ◌*◌, ◌^◌, ◌≤◌, ◌↔◌, IsOk, IfOk, IfErr, OnOk, Some, None};
 ghost use Rattle.sota_units.specs.Rounding.{ONE};
 ghost use Rattle.sota_network.specs.Network.{IsNet};
 ghost use Rattle.sota_network.specs.Trees.{Fits, follow, score};
@@ -20,6 +20,7 @@ use sota_units::{ArcId, Grain, NodeId};
 pub fn check(network: &Network, table: &PolicyTable) -> Result<Certified, Rejection>
     ensures certified { IsOk result ↔ IsCertified network.now table.now }
     ensures first { IfErr result (λ cause. rejection network.now table.now ≡ Some cause) }
+    ensures passed { OnOk result (rejection network.now table.now ≡ None) }
     ensures ask { IfOk result (λ c. (c.origin ≡ table.now.head.origin)
         × (c.dest ≡ table.now.head.dest) × (c.budget ≡ table.now.head.budget)) }
     ensures lower { IfOk result (λ c. c.lower ≡ value table.now c.origin c.budget) }

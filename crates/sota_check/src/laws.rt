@@ -31,6 +31,16 @@ pub fn certified_attains()
     sound_values();
 }
 
+/// A policy without a cause to be rejected holds, and one that holds has none.
+pub fn passed_policies_hold()
+    ensures holds { (net : Net) (table : Table) → rejection net table ≡ None
+        → IsCertified net table }
+    ensures passes { (net : Net) (table : Table) → IsTable table → IsCertified net table
+        → rejection net table ≡ None }
+{
+    entries_stand_in_rows();
+}
+
 /// The planner's file, and rows of the grid's entries, make the planner's policy.
 pub fn rows_make_plans()
     ensures file { (net : Net) (origin dest last : ℕ) (table : Table) → IsNet net → IsTable table

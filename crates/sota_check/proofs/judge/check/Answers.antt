@@ -33,3 +33,9 @@ returns-in-None-clause-certified c =
     let nodes : c.args.table.now.head.nodes ≡ c.args.network.now.nodes = ap (λ (h : PolicyHead). h.nodes) (sym c.head-head.ensures.value) ∙ c.if-head-nodes.false ∙ c.nodes.ensures.value in
     let scale : c.args.table.now.head.scale ≡ c.args.network.now.scale = ap (λ (h : PolicyHead). h.scale) (sym c.head-head.ensures.value) ∙ c.if-head-get.false ∙ c.get.ensures.value ∙ c.scale.ensures.value in
     (λ yes. certified-if c.args.network.now c.args.table.now (c.entries_stand_in_rows.ensures.only c.args.table.now) nodes scale (sym c.in-None.ensures), λ holds. refl)
+
+pub returns-in-None-clause-passed : goal.returns-in-None-clause-passed
+returns-in-None-clause-passed c =
+    let nodes : c.args.table.now.head.nodes ≡ c.args.network.now.nodes = ap (λ (h : PolicyHead). h.nodes) (sym c.head-head.ensures.value) ∙ c.if-head-nodes.false ∙ c.nodes.ensures.value in
+    let scale : c.args.table.now.head.scale ≡ c.args.network.now.scale = ap (λ (h : PolicyHead). h.scale) (sym c.head-head.ensures.value) ∙ c.if-head-get.false ∙ c.get.ensures.value ∙ c.scale.ensures.value in
+    rejected-row c.args.network.now c.args.table.now nodes scale ∙ sym c.in-None.ensures
