@@ -1,0 +1,193 @@
+#!/usr/bin/env python3
+"""Hands mutated texts to the readers of the built program, and looks at every answer.
+
+Each round changes a valid text at a few places (bytes replaced, dropped, doubled, parts cut out or
+put in twice, numbers made large) and runs the program on it. An answer is right where its status is
+one of the table, a refusal names a cause of its reader and a place inside the text, and nothing
+else is written. The lines of scripts go to the program by the thousand, one refusal or reply a
+line. Standard library alone; the rounds of a seed are the same everywhere.
+
+    tests/fuzz.py                           2,000 rounds a reader over crates/sota/out/sota
+    tests/fuzz.py --rounds 1000000 --jobs 4
+    tests/fuzz.py --reader graph --seed 7 --sota PATH
+"""
+import argparse
+import multiprocessing
+import os
+import random
+import re
+import subprocess
+import sys
+import tempfile
+
+HERE = os.path.dirname(os.path.abspath(__file__))
+SOTA = os.path.join(HERE, "..", "crates", "sota", "out", "sota")
+
+GRAPH = b"c a triangle\np sp 3 3\na 1 2 1\na 2 3 1\n\na 1 3 3\n"
+HISTS = b'arc,tick,mass/4\n2,1,2\n2,"3",2\r\n3,3,3\n3,5,1\n'
+PLAN = bytes.fromhex(
+    "534f5441504f4c31 00000003 00000003 00000001 00000003 00000004 00000002"
+    "00000001 00000002 00000002 00000001 06f05b59d3b20000 00000003 0a688906bd8b0000"
+    "00000002 00000001 00000002 00000002 06f05b59d3b20000 00000002 06f05b59d3b20000"
+)
+LINES = [b"ask 1 3 2", b"edit 2 1:2 3:2", b"close 3", b"policy 4 3 3 name", b"# note", b"",
+         b"\task 3 1 9", b"edit 3 3:3 5:1"]
+
+GRAIN = rb"[01]\.\d{18}"
+ANSWER = rb"answer \d+ \d+ \d+ " + GRAIN + rb" " + GRAIN + rb" (-|\d+)"
+CAUSES = {
+    "graph": rb"NoProblem|SecondProblem|BadLine|NodeRange|ArcBeforeProblem|TooManyArcs|TooFewArcs"
+             rb"|TooManyNodes|ArcLimit",
+    "hists": rb"Header|Fields|Number|NoArc|ZeroTick|RepeatedTick|Sum|ZeroTime",
+    "policy": rb"Magic|Truncated|Order|Range|Trailing",
+}
+LINE_CAUSES = (rb"Word|Count|Number|Name|ZeroTick|RepeatedTick|Sum|NoArc|NoOrigin|NoDest|Budget"
+               rb"|TableCells \d+|BroadCells \d+")
+VERDICT = (rb"accepted \d+ \d+ \d+ " + GRAIN + rb"|rejected (Size|Scale)"
+           rb"|rejected (NoArc|WrongTail|Value) \d+ \d+")
+
+
+def mutated(draw, text):
+    """The text with one to four changes."""
+    data = bytearray(text)
+    for _ in range(draw.randint(1, 4)):
+        at = draw.randint(0, len(data))
+        to = min(len(data), at + draw.choice([0, 1, 1, 1, 2, 4, 12]))
+        kind = draw.randrange(7)
+        if kind == 0:
+            data[at:to] = b""
+        elif kind == 1:
+            data[at:to] = bytes([draw.randrange(256)])
+        elif kind == 2:
+            data[at:at] = data[at:to]
+        elif kind == 3:
+            data[at:at] = draw.choice([b"\n", b"\r", b" ", b"\t", b",", b'"', b":", b"#", b"\x00"])
+        elif kind == 4:
+            data[at:to] = str(draw.choice([0, 2**16, 10**9 + 1, 2**32 - 1, 2**32, 10**30])).encode()
+        elif kind == 5:
+            data[at:to] = draw.randbytes(to - at)
+        else:
+            start = draw.randint(0, len(data))
+            data[at:at] = data[start:start + draw.randint(1, 24)]
+    return bytes(data)
+
+
+class Runner:
+    """Runs the program on the files of a folder of its own."""
+
+    def __init__(self, sota):
+        self.sota = os.path.abspath(sota)
+        self.folder = tempfile.TemporaryDirectory()
+        for name, data in [("graph", GRAPH), ("hists", HISTS), ("policy", PLAN)]:
+            self.write(name, data)
+
+    def write(self, name, data):
+        """Writes a file of the folder."""
+        with open(os.path.join(self.folder.name, name), "wb") as out:
+            out.write(data)
+
+    def run(self, words):
+        """The status, the text and the messages of a run."""
+        done = subprocess.run([self.sota, *words], cwd=self.folder.name, capture_output=True,
+                              stdin=subprocess.DEVNULL, timeout=60, check=False)
+        return done.returncode, done.stdout, done.stderr
+
+
+def is_place_in(reader, place, text):
+    """Whether a place that a fault has can be one of the text: an offset, a line, a record or an
+    arc, or a number that stands in it."""
+    return place <= len(text) + 1 or str(place).encode() in text or reader == "policy"
+
+
+def fault_of(reader, status, out, message, text):
+    """What is wrong with an answer to a text of a reader, or None."""
+    if message:
+        return "a message of its own"
+    if status == 3:
+        found = re.fullmatch(rb"refused (\w+) (\w+) (\d+)\n", out)
+        # Without histograms a graph's weight of 0 is refused where it is taken for a time.
+        of_weights = reader == "graph" and found and found[1] + found[2] == b"histsZeroTime"
+        of_reader = found and found[1].decode() == reader and re.fullmatch(CAUSES[reader], found[2])
+        if not of_reader and not of_weights:
+            return "a refusal that is none of its reader"
+        return None if is_place_in(reader, int(found[3]), text) else "a place outside the text"
+    reply = VERDICT if reader == "policy" else ANSWER + rb"|refused 1 (" + LINE_CAUSES + rb")"
+    if status not in (0, 1) or not re.fullmatch(rb"(" + reply + rb")\n", out):
+        return "an answer that is none"
+    return None
+
+
+def fuzz_files(reader, rounds, seed, sota):
+    """Rounds of one reader. Answers the first wrong one, or None."""
+    draw = random.Random(f"{reader} {seed}")
+    runner = Runner(sota)
+    text = {"graph": GRAPH, "hists": HISTS, "policy": PLAN}[reader]
+    words = ["check", "graph", "hists", "policy"] if reader == "policy" else \
+        ["ask", "graph", "hists", "1", "3", "3"]
+    if reader == "graph":
+        words[2] = "-"
+    for number in range(rounds):
+        data = mutated(draw, text)
+        runner.write(reader, data)
+        answer = runner.run(words)
+        fault = fault_of(reader, *answer, data)
+        if fault:
+            return f"{reader}, seed {seed}, round {number}: {fault}: {data!r} gives {answer!r}"
+    return None
+
+
+def fuzz_script(rounds, seed, sota):
+    """Rounds of the reader of scripts, many lines in one run."""
+    draw = random.Random(f"script {seed}")
+    runner = Runner(sota)
+    left = rounds
+    while left > 0:
+        lines = [mutated(draw, draw.choice(LINES)).replace(b"\n", b" ")
+                 for _ in range(min(left, 50_000))]
+        # A mutated policy line may store a file of any name.
+        lines = [line for line in lines if not re.match(rb"[ \t]*policy[ \t]", line)]
+        runner.write("script", b"\n".join(lines) + b"\n")
+        status, out, message = runner.run(["run", "graph", "hists", "script"])
+        wanted = rb"(" + ANSWER + rb"|refused (\d+) (" + LINE_CAUSES + rb")|edited \d+|closed \d+)"
+        if message or status not in (0, 1):
+            return f"script, seed {seed}: status {status}, message {message!r}"
+        last = 0
+        for reply in out.splitlines():
+            found = re.fullmatch(wanted, reply)
+            if not found or (found[3] and not last < int(found[3]) <= len(lines)):
+                return f"script, seed {seed}: a reply {reply!r}"
+            last = int(found[3] or last)
+        left -= 50_000
+    return None
+
+
+def play(task):
+    """Plays a task of a worker: a reader, rounds, a seed and the program."""
+    reader, rounds, seed, sota = task
+    if reader == "script":
+        return fuzz_script(rounds, seed, sota)
+    return fuzz_files(reader, rounds, seed, sota)
+
+
+def main():
+    """Plays all rounds, and says the first wrong answer of each worker."""
+    reader = argparse.ArgumentParser(description=__doc__.splitlines()[0])
+    reader.add_argument("--sota", default=SOTA)
+    reader.add_argument("--rounds", type=int, default=2000)
+    reader.add_argument("--reader", choices=["graph", "hists", "script", "policy"], action="append")
+    reader.add_argument("--seed", type=int, default=1)
+    reader.add_argument("--jobs", type=int, default=1)
+    words = reader.parse_args()
+    readers = words.reader or ["graph", "hists", "script", "policy"]
+    tasks = [(name, -(-words.rounds // words.jobs), words.seed * 1000 + job, words.sota)
+             for name in readers for job in range(words.jobs)]
+    with multiprocessing.Pool(words.jobs) as pool:
+        wrong = [answer for answer in pool.imap_unordered(play, tasks) if answer]
+    for answer in wrong:
+        print(answer)
+    print(f"fuzz: {words.rounds} rounds of {', '.join(readers)}: {len(wrong)} wrong")
+    return 1 if wrong else 0
+
+
+if __name__ == "__main__":
+    sys.exit(main())
