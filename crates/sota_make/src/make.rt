@@ -12,14 +12,17 @@ use sota_units::{NoMemory, Scale};
 use sota_words::Words;
 use std::alloc::Global;
 
-/// The most nodes, arcs and ticks of an arc, and the most ticks of all arcs.
+/// The most nodes.
 const NODES: u32 = 10_000;
 
+/// The most arcs.
 const ARCS: u32 = 100_000;
 
+/// The most ticks of an arc.
 const SPAN: u32 = 1000;
 
-const PAIRS: u32 = 10_000_000;
+/// The most ticks of all arcs.
+const TICKS: u32 = 10_000_000;
 
 /// Why no network was made.
 #[derive(Clone, Copy, Debug, PartialEq, Eq)]
@@ -73,5 +76,5 @@ fn is_size(nodes: u32, arcs: u32, span: u32) -> bool
     (2..=NODES).contains(&nodes)
         && (nodes..=ARCS).contains(&arcs)
         && (1..=SPAN).contains(&span)
-        && arcs * span <= PAIRS
+        && arcs * span <= TICKS
 }

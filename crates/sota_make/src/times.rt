@@ -1,6 +1,5 @@
 // The travel time of an arc.
-ghost use Rattle.std.specs.Prelude.{◌≡◌, ◌≤◌, ◌+◌, ◌-◌, IfOk};
-ghost use Rattle.sota_hist.specs.Time.{IsTime, total};
+ghost use Rattle.std.specs.Prelude.{◌≡◌, ◌≤◌, ◌-◌, IfOk};
 ghost use Rattle.sota_make.specs.Made.{MADE_SCALE, pairs_from, made_time};
 
 use crate::laws::pairs_make_times;
