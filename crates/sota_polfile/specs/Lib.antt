@@ -4,3 +4,4 @@ pub mod Spelling
 pub mod Places
 pub mod Faults
 pub mod Words
+pub mod Limits

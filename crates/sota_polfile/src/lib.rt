@@ -16,7 +16,7 @@ pub use entry::{PolicyEntries, PolicyEntry};
 pub use fault::PolicyFault;
 pub use head::PolicyHead;
 pub use laws::{cut_fault, entries_stand_in_rows, one_to_one, rows_by_node};
-pub use reading::read_policy;
+pub use reading::{POLICY_LIMIT, read_policy};
 pub use row::PolicyRow;
 pub use table::PolicyTable;
 pub use writing::write_policy;

@@ -2,6 +2,7 @@
 // bytes do not back.
 ghost use Rattle.std.specs.Prelude.{◌≡◌, ◌+◌, ◌*◌, ◌≤◌, length, IfOk, IfErr, OnOk, Ok, None};
 ghost use Rattle.sota_units.specs.Memory.{Answers, IsFault};
+ghost use Rattle.sota_polfile.specs.Limits.{POLICY_LIMIT};
 ghost use Rattle.sota_polfile.specs.Words.{is_shortage};
 ghost use Rattle.sota_polfile.specs.Table.{Table, IsTable};
 ghost use Rattle.sota_polfile.specs.Spelling.{spelling};
@@ -117,11 +118,14 @@ fn table_of(alloc: Global, bytes: &[u8]) -> Result<PolicyTable, PolicyFault>
     Ok(PolicyTable { head, rows })
 }
 
+/// The most bytes of a policy file: 1 GiB.
+pub const POLICY_LIMIT: u32 = 1_073_741_824;
+
 /// The table of a policy file, or the first fault of bytes that are none, from the front on. It
 /// takes no memory that the bytes do not back, whatever numbers they claim. Who made the file does
 /// not matter: arcs and values are as they stand.
 pub fn read_policy(alloc: Global, bytes: &[u8]) -> Result<PolicyTable, PolicyFault>
-    requires { length bytes.now ≤ 1073741824 }
+    requires { length bytes.now ≤ POLICY_LIMIT }
     // What is read and written again has the same bytes.
     ensures read { IfOk result (λ table. IsTable table × (bytes.now ≡ spelling table)) }
     // What is spelled so is read, unless memory runs out.
