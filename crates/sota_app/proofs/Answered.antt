@@ -9,7 +9,7 @@ use Rattle.sota_session.specs.Asks.{answer_of}
 use Rattle.sota_app.specs.Outputs.{text_of}
 use Rattle.sota_app.specs.Replies.{answer_line, reply_line, replies_text, outputs_of}
 use Rattle.sota_app.specs.Script.{ScriptLine, ask_on, session_ask, replies_to}
-use Rattle.sota_app.specs.Outcome.{Outcome, outcome_of, Work, work_of, work_outcome}
+use Rattle.sota_app.specs.Outcome.{Outcome, outcome_of, play, Work, work_of, work_outcome}
 use Rattle.sota_app.specs.Causes.{Delivered}
 use Rattle.sota_app.specs.Meaning.{AskLine, line_net, IsAmong, IsAnswered}
 use Rattle.sota_app.specs.declared.reply.Reply.{Reply}
@@ -25,7 +25,7 @@ abbrev pub Means : Option Request → Files → Work → Type 0
 Means o files work = IsSomeAnd o (λ request. work_of request files ≡ Ok work)
 
 -- the outcome of work that the files mean
-work_done : (o : Option Request) (files : Files) (work : Work) → Means o files work
+pub work_done : (o : Option Request) (files : Files) (work : Work) → Means o files work
     → outcome_of o files ≡ work_outcome (Ok work)
 work_done None files work h = absurd h
 work_done (Some request) files work h = ap work_outcome h
@@ -55,7 +55,7 @@ line_text line words files answered =
 
 pub line_written : (line : AskLine) (words : List (List ℕ)) (o : Option Request) (files : Files)
     (result : Status) (d e : DeskState) (s t : SinkState) → IsAnswered words files line
-    → (lines : List ScriptLine) → Means o files (record { net = line.net; lines = lines })
+    → (lines : List ScriptLine) → Means o files (record { net = line.net; job = play lines })
     → IsAmong line lines → Delivered (outcome_of o files) result d e s t
     → Wrote (around_line line) s t
 line_written line words o files result d e s t answered lines work place all =
@@ -67,7 +67,7 @@ line_written line words o files result d e s t answered lines work place all =
     all.made.text
 
 -- the network of the line is one
-means_network : Graphs → Texts → Weights → (o : Option Request) (files : Files) (work : Work)
+pub means_network : Graphs → Texts → Weights → (o : Option Request) (files : Files) (work : Work)
     → Means o files work → IsNet work.net
 means_network graphs texts weights None files work h = absurd h
 means_network graphs texts weights (Some request) files work h =
@@ -75,7 +75,7 @@ means_network graphs texts weights (Some request) files work h =
 
 pub line_valid : Graphs → Texts → Weights → Built → Kept → (line : AskLine) (o : Option Request)
     (files : Files) (lines : List ScriptLine)
-    → Means o files (record { net = line.net; lines = lines }) → IsNet (line_net line)
+    → Means o files (record { net = line.net; job = play lines }) → IsNet (line_net line)
 line_valid graphs texts weights built kept line o files lines h =
     keeps_network built kept line.above line.net
-    (means_network graphs texts weights o files (record { net = line.net; lines = lines }) h)
+    (means_network graphs texts weights o files (record { net = line.net; job = play lines }) h)

@@ -4,13 +4,17 @@ use Rattle.std.proofs.Common.{Err, IfOk, refl, sym, ap, subst, inl, inr, arith}
 use Rattle.sota_edge.specs.Counts.{Rose}
 use Rattle.sota_edge.specs.Desk.{Files, DeskState}
 use Rattle.sota_edge.specs.Sink.{SinkState}
+use Rattle.sota_network.specs.Network.{Net}
+use Rattle.sota_check.specs.Rejected.{rejection}
+use Rattle.sota_check.specs.declared.verdict.Rejection.{Rejection}
 use Rattle.sota_app.specs.Outputs.{Output, NextBegun, Begun, StoreMissed, Stopped, Ends, LineEnds}
 use Rattle.sota_app.specs.Outputs.{only_line}
-use Rattle.sota_app.specs.Replies.{outputs_of, replies_status, some_refused, lines_status}
+use Rattle.sota_app.specs.Replies.{some_refused, lines_status}
+use Rattle.sota_app.specs.Verdicts.{verdict_status}
 use Rattle.sota_app.specs.Script.{replies_to}
 use Rattle.sota_app.specs.InputFaults.{fault_line}
-use Rattle.sota_app.specs.Outcome.{Outcome, outcome_of, Work, work_of}
-use Rattle.sota_app.specs.Outcome.{work_outcome, refused_words}
+use Rattle.sota_app.specs.Outcome.{Outcome, outcome_of, Job, play, judge, Work, work_of}
+use Rattle.sota_app.specs.Outcome.{job_outcome, work_outcome, refused_words}
 use Rattle.sota_app.specs.Causes.{Cause, Ended, Delivered, Known, Took, UnreadInput, Stands}
 use Rattle.sota_app.specs.Causes.{CanMiss, status_of}
 use Rattle.sota_app.specs.Inputs.{OnlyTook, InputAnswers, NoInputWritten}
@@ -109,20 +113,34 @@ stop_cause stops.NoMemory request read d e s t known h = tt
 
 -- ---- the inputs were read
 
-done_cause : (refused : Bool) (request : Request) (d e : DeskState) (s t : SinkState)
+lines_cause : (refused : Bool) (request : Request) (d e : DeskState) (s t : SinkState)
     → Stands (lines_status refused) (Some request) d e s t
     → Cause (lines_status refused) (Some request) d e s t
-done_cause true request d e s t stands = stands
-done_cause false request d e s t stands = stands
+lines_cause true request d e s t stands = stands
+lines_cause false request d e s t stands = stands
+
+verdict_cause : (cause : Option Rejection) (request : Request) (d e : DeskState)
+    (s t : SinkState) → Stands (verdict_status cause) (Some request) d e s t
+    → Cause (verdict_status cause) (Some request) d e s t
+verdict_cause None request d e s t stands = stands
+verdict_cause (Some cause) request d e s t stands = stands
+
+done_cause : (net : Net) (job : Job) (request : Request) (d e : DeskState) (s t : SinkState)
+    → Stands (job_outcome net job).status (Some request) d e s t
+    → Cause (job_outcome net job).status (Some request) d e s t
+done_cause net (play lines) request d e s t stands =
+    lines_cause (some_refused (replies_to net lines)) request d e s t stands
+done_cause net (judge table) request d e s t stands =
+    verdict_cause (rejection net table) request d e s t stands
 
 ok_cause : (work : Work) (request : Request) (result : Result Status Stop) (d e : DeskState)
     (s t : SinkState) → Known d (λ files. work_of request files ≡ Ok work)
-    → Ends result (outputs_of (replies_to work.net work.lines)) d e s t
-    → IfOk result (λ status. status ≡ replies_status (replies_to work.net work.lines))
+    → Ends result (job_outcome work.net work.job).outputs d e s t
+    → IfOk result (λ status. status ≡ (job_outcome work.net work.job).status)
     → Cause (status_of result) (Some request) d e s t
 ok_cause work request (Ok status) d e s t known made is =
     subst (λ (status : Status). Cause status (Some request) d e s t) (sym is)
-    (done_cause (some_refused (replies_to work.net work.lines)) request d e s t
+    (done_cause work.net work.job request d e s t
     (stands_at request (Ok work) _ d e s t known
     (record { status_is = refl; made = made.0 })))
 ok_cause work request (Err stop) d e s t known stopped is =
@@ -146,11 +164,11 @@ since_loads (Err stops.NoMemory) outputs d m e s t took h = rw (sym took.holds) 
 pub ok_ended : {T : Type 0} (view : T → Work) (request : Request) (task : T)
     (result : Result Status Stop) (d m e : DeskState) (s t : SinkState)
     → InputAnswers view (Ok task) (work_of request) (UnreadInput request) d m
-    → Ends result (outputs_of (replies_to (view task).net (view task).lines)) m e s t
-    → IfOk result (λ status. status ≡ replies_status (replies_to (view task).net (view task).lines))
+    → Ends result (job_outcome (view task).net (view task).job).outputs m e s t
+    → IfOk result (λ status. status ≡ (job_outcome (view task).net (view task).job).status)
     → Ended (status_of result) (Some request) d e s t
 ok_ended view request task result d m e s t read ends is =
-    let made = since_loads result (outputs_of (replies_to (view task).net (view task).lines))
+    let made = since_loads result (job_outcome (view task).net (view task).job).outputs
     d m e s t read.0 ends in
     record {
       cause = ok_cause (view task) request result d e s t read.1 made is;

@@ -9,4 +9,5 @@ pub mod Exact
 pub mod Ends
 pub mod EachLine
 pub mod Answered
+pub mod Judged
 pub mod Prefixes

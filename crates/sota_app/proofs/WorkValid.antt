@@ -9,7 +9,7 @@ use Rattle.sota_network.specs.Network.{Net, IsNet}
 use Rattle.sota_histcsv.specs.Certain.{certain_net}
 use Rattle.sota_histcsv.specs.Histograms.{hist_net}
 use Rattle.sota_app.specs.Outcome.{or_input_fault, input_bytes, read_graph, graph_of, certain_hists}
-use Rattle.sota_app.specs.Outcome.{read_hists, is_dash, with_hists, network_of, script_of, Work}
+use Rattle.sota_app.specs.Outcome.{read_hists, is_dash, with_hists, network_of, script_of, table_of, Work}
 use Rattle.sota_app.specs.Outcome.{work_of}
 use Rattle.sota_app.specs.declared.input.Input.TheVariants as inputs
 use Rattle.sota_app.specs.declared.input.InputFault.{InputFault}
@@ -86,3 +86,8 @@ work_valid graphs texts weights (requests.Run run) files work e =
     let k = followed (script_of run.script files) _ work h.next_is in
     subst IsNet (net_is _ work k.next_is)
     (network_valid graphs texts weights run.graph run.hists files h.first h.first_is)
+work_valid graphs texts weights (requests.Check check) files work e =
+    let h = followed (network_of check.graph check.hists files) _ work e in
+    let k = followed (table_of check.policy files) _ work h.next_is in
+    subst IsNet (net_is _ work k.next_is)
+    (network_valid graphs texts weights check.graph check.hists files h.first h.first_is)

@@ -7,12 +7,13 @@ use Rattle.sota_edge.specs.Desk.{Files, DeskState}
 use Rattle.sota_edge.specs.Sink.{SinkState, Wrote}
 use Rattle.sota_dimacs.specs.Words as graphs
 use Rattle.sota_histcsv.specs.Words as hists
+use Rattle.sota_polfile.specs.Words as policies
 use Rattle.sota_app.specs.Outputs.{Made, Begun, StoreMissed}
 use Rattle.sota_app.specs.Outcome.{Outcome, outcome_of, refused_words}
 use Rattle.sota_app.specs.Outcome.{graph_of, network_of, is_dash}
 use Rattle.sota_app.specs.InputFaults.{fault_place, fault_line}
 use Rattle.sota_app.specs.declared.input.InputFault.{InputFault}
-use Rattle.sota_app.specs.declared.input.InputFault.TheVariants.{TooLong, Graph, Hists}
+use Rattle.sota_app.specs.declared.input.InputFault.TheVariants.{TooLong, Graph, Hists, Policy}
 use Rattle.sota_app.specs.declared.input.NoInput.{NoInput}
 use Rattle.sota_app.specs.declared.words.Request.{Request}
 use Rattle.sota_app.specs.declared.words.Request.TheVariants as requests
@@ -47,18 +48,25 @@ abbrev pub UnreadNetwork : List ℕ → List ℕ → DeskState → DeskState →
 UnreadNetwork graph hists old new =
     Unread graph old new ⊎ (Accepted (graph_of graph) old × UnreadHists hists old new)
 
+-- an input after those of a network
+abbrev pub UnreadLast : List ℕ → List ℕ → List ℕ → DeskState → DeskState → Type 0
+UnreadLast graph hists name old new =
+    UnreadNetwork graph hists old new
+    ⊎ (Accepted (network_of graph hists) old × Unread name old new)
+
 -- an input of the request
 abbrev pub UnreadInput : Request → DeskState → DeskState → Type 0
 UnreadInput (requests.Ask ask) old new = UnreadNetwork ask.graph ask.hists old new
-UnreadInput (requests.Run run) old new =
-    UnreadNetwork run.graph run.hists old new
-    ⊎ (Accepted (network_of run.graph run.hists) old × Unread run.script old new)
+UnreadInput (requests.Run run) old new = UnreadLast run.graph run.hists run.script old new
+UnreadInput (requests.Check check) old new =
+    UnreadLast check.graph check.hists check.policy old new
 
 -- a fault of what stands in a text; want of memory is none
 abbrev pub IsOfText : InputFault → Type 0
 IsOfText (TooLong input) = ⊥
 IsOfText (Graph fault) = graphs.is_shortage fault ≡ false
 IsOfText (Hists fault) = hists.is_shortage fault ≡ false
+IsOfText (Policy fault) = policies.is_shortage fault ≡ false
 
 -- where an input is refused for its length, more than its limit was taken, which is the number in
 -- its line

@@ -6,11 +6,13 @@ use Rattle.sota_edge.specs.Desk.{Files, DeskState}
 use Rattle.sota_edge.specs.Sink.{SinkState}
 use Rattle.sota_app.specs.Outputs.{LineEnds}
 use Rattle.sota_app.specs.InputFaults.{fault_line}
-use Rattle.sota_app.specs.Outcome.{Work}
+use Rattle.sota_app.specs.Outcome.{Job, play, judge, Work}
 use Rattle.sota_app.specs.Script.{ScriptLine, ask_on, script_lines}
 use Rattle.sota_app.specs.Causes.{Known, Took, IsOfText}
 use Rattle.sota_app.specs.declared.inputs.Script.{Script}
 use Rattle.sota_app.specs.declared.inputs.Script.TheVariants as scripts
+use Rattle.sota_app.specs.declared.inputs.Job.{Job as TaskJob}
+use Rattle.sota_app.specs.declared.inputs.Job.TheVariants as jobs
 use Rattle.sota_app.specs.declared.inputs.Task.{Task}
 use Rattle.sota_app.specs.declared.input.NoInput.{NoInput}
 use Rattle.sota_app.specs.declared.input.NoInput.TheVariants as ends
@@ -18,18 +20,26 @@ use Rattle.sota_app.specs.declared.status.Status.{Status}
 use Rattle.sota_app.specs.declared.status.Status.TheVariants.{Input, ReadFault, NoMemory}
 use Rattle.sota_app.specs.declared.stop.Stop.{Stop}
 
--- the lines of a task, and their network
+-- the lines of a script
 abbrev pub lines_of : Script → List ScriptLine
 lines_of (scripts.Ask ask) = ask_on 1 ask ∷ []
 lines_of (scripts.Text script) = script_lines script.items
 
+abbrev pub job_of : TaskJob → Job
+job_of (jobs.Play script) = play (lines_of script)
+job_of (jobs.Judge table) = judge table
+
 abbrev pub task_work : Task → Work
-task_work task = record { net = task.network; lines = lines_of task.script }
+task_work task = record { net = task.network; job = job_of task.job }
 
 -- a script is within its limit
 abbrev pub IsShort : Script → Type 0
 IsShort (scripts.Ask ask) = Unit {0}
 IsShort (scripts.Text script) = length script.items ≤ TEXT_LIMIT
+
+abbrev pub IsShortJob : TaskJob → Type 0
+IsShortJob (jobs.Play script) = IsShort script
+IsShortJob (jobs.Judge table) = Unit {0}
 
 -- nothing changed in the desk but what was taken
 pub record OnlyTook (old new : DeskState) : Type 0 where

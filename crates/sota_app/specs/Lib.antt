@@ -5,6 +5,7 @@ pub mod Outputs
 pub mod Replies
 pub mod Script
 pub mod InputFaults
+pub mod Verdicts
 pub mod Outcome
 pub mod Causes
 pub mod Inputs

@@ -1,4 +1,4 @@
--- What an answered ask means for a traveller.
+-- What an answered ask, and an accepted policy, mean for a traveller.
 use Rattle.std.specs.Prelude.{◌≡◌, ◌≤◌, ◌+◌, ◌*◌, ◌^◌, ◌++◌, ◌∷◌, ℕ, List, Option, None, Ok}
 use Rattle.std.specs.Option.{IsSomeAnd}
 use Rattle.sota_units.specs.Rounding.{ONE}
@@ -9,10 +9,13 @@ use Rattle.sota_network.specs.Grid.{choice}
 use Rattle.sota_network.specs.Trees.{Tree, Encloses, Fits, score, follow}
 use Rattle.sota_script.specs.declared.command.Ask3.{Ask3}
 use Rattle.sota_session.specs.Asks.{ask_fault}
+use Rattle.sota_polfile.specs.Table.{Table}
+use Rattle.sota_check.specs.Certified.{rule, IsCertified}
 use Rattle.sota_app.specs.Words.{request_of}
 use Rattle.sota_app.specs.Replies.{answer_line, replies_text}
 use Rattle.sota_app.specs.Script.{ScriptLine, ask_on, session_ask, network_after, replies_to}
-use Rattle.sota_app.specs.Outcome.{work_of}
+use Rattle.sota_app.specs.Verdicts.{named, accepted_line}
+use Rattle.sota_app.specs.Outcome.{play, judge, work_of}
 
 -- an ask on the line of this number, between the lines above it and those below it, over the
 -- network of the files
@@ -39,7 +42,7 @@ IsAccepted line = ask_fault (line_net line) (session_ask line.ask) ≡ None
 pub record IsAnswered (words : List (List ℕ)) (files : Files) (line : AskLine) : Type 0 where
   pub lines : List ScriptLine
   pub request : IsSomeAnd (request_of words) (λ request.
-      work_of request files ≡ Ok (record { net = line.net; lines = lines }))
+      work_of request files ≡ Ok (record { net = line.net; job = play lines }))
   pub place : IsAmong line lines
   pub accepted : IsAccepted line
 
@@ -71,3 +74,26 @@ pub record Meant (line : AskLine) (old new : SinkState) : Type 0 where
       ++ (answer_line (session_ask line.ask) (record { lower = lower; upper = upper; next = next })
       ++ replies_text (replies_to (line_net line) line.below))) old new
   pub meant : IsMeant (line_net line) line.ask lower upper next
+
+-- ---- a policy that is accepted
+
+-- the words are a request to judge this policy on this network
+abbrev pub IsJudged : List (List ℕ) → Files → Net → Table → Type 0
+IsJudged words files net table = IsSomeAnd (request_of words) (λ request.
+    work_of request files ≡ Ok (record { net = net; job = judge table }))
+
+-- the tree of a traveller who takes the arcs of a policy from its origin with its whole budget
+abbrev pub journey : Net → Table → Tree
+journey net table =
+    follow net (rule table) table.head.dest table.head.origin table.head.budget
+
+-- The line 'accepted O D T LOWER' was written, with the ask of the policy and the value, in units of
+-- ten to the minus eighteenth, that it names. Each entry of the policy holds. Who follows its arcs
+-- arrives in time with at least that probability, and it is at most one.
+pub record Attested (net : Net) (table : Table) (old new : SinkState) : Type 0 where
+  pub written : Wrote (accepted_line (named table)) old new
+  pub holds : IsCertified net table
+  pub fits : Fits net table.head.origin (journey net table)
+  pub attains : (named table).lower * net.scale ^ table.head.budget
+      ≤ ONE * score net table.head.dest table.head.origin table.head.budget (journey net table)
+  pub whole : (named table).lower ≤ ONE

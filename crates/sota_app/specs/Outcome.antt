@@ -11,9 +11,13 @@ use Rattle.sota_dimacs.specs.declared.graph.RawGraph.{RawGraph}
 use Rattle.sota_histcsv.specs.Certain.{certain_net}
 use Rattle.sota_histcsv.specs.Histograms.{hist_net}
 use Rattle.sota_network.specs.Network.{Net}
+use Rattle.sota_polfile.specs.Table.{Table}
+use Rattle.sota_polfile.specs.Faults.{policy_of}
+use Rattle.sota_check.specs.Rejected.{rejection}
 use Rattle.sota_app.specs.Words.{request_of}
 use Rattle.sota_app.specs.Outputs.{Output, only_line}
 use Rattle.sota_app.specs.Replies.{outputs_of, replies_status}
+use Rattle.sota_app.specs.Verdicts.{verdict_line, verdict_status}
 use Rattle.sota_app.specs.Script.{ScriptLine, ask_on, script_lines, replies_to}
 use Rattle.sota_app.specs.InputFaults.{input_limit, fault_line}
 use Rattle.sota_app.specs.declared.reply.Reply.{Reply}
@@ -72,22 +76,36 @@ network_of graph hists files = graph_of graph files >>= with_hists hists files
 abbrev pub script_of : List ℕ → Files → Result (List ℕ) NoInput
 script_of name files = input_bytes inputs.Script (files name)
 
+abbrev pub read_table : List ℕ → Result Table NoInput
+read_table bytes = or_input_fault (λ fault. faults.Policy fault) (policy_of bytes)
+
+abbrev pub table_of : List ℕ → Files → Result Table NoInput
+table_of name files = input_bytes inputs.Policy (files name) >>= read_table
+
 -- ---- requests
 
--- a network, and the lines that are to be played on it
+-- what is to be done on a network: lines are to be played, or a policy is to be judged
+pub data Job : Type 0 where
+  play : List ScriptLine → Job
+  judge : Table → Job
+
 pub record Work : Type 0 where
   pub net : Net
-  pub lines : List ScriptLine
+  pub job : Job
 
 -- the request 'ask' is a script of that one line
 abbrev pub work_of : Request → Files → Result Work NoInput
 work_of (requests.Ask ask) files = do
   net ← network_of ask.graph ask.hists files
-  Ok (record { net = net; lines = ask_on 1 ask.ask ∷ [] })
+  Ok (record { net = net; job = play (ask_on 1 ask.ask ∷ []) })
 work_of (requests.Run run) files = do
   net ← network_of run.graph run.hists files
   script ← script_of run.script files
-  Ok (record { net = net; lines = script_lines script })
+  Ok (record { net = net; job = play (script_lines script) })
+work_of (requests.Check check) files = do
+  net ← network_of check.graph check.hists files
+  table ← table_of check.policy files
+  Ok (record { net = net; job = judge table })
 
 -- ---- outcomes
 
@@ -99,6 +117,17 @@ pub record Outcome : Type 0 where
 abbrev pub replied : List Reply → Outcome
 replied replies = record { outputs = outputs_of replies; status = replies_status replies }
 
+-- the verdict on a policy
+abbrev pub judged : Net → Table → Outcome
+judged net table = record {
+  outputs = only_line (verdict_line table (rejection net table));
+  status = verdict_status (rejection net table);
+}
+
+abbrev pub job_outcome : Net → Job → Outcome
+job_outcome net (play lines) = replied (replies_to net lines)
+job_outcome net (judge table) = judged net table
+
 -- an input that is not accepted; want of memory is never the meaning of files
 abbrev pub no_input : NoInput → Outcome
 no_input (ends.Fault fault) =
@@ -107,7 +136,7 @@ no_input ends.Unread = record { outputs = []; status = statuses.ReadFault }
 no_input ends.NoMemory = record { outputs = []; status = statuses.NoMemory }
 
 abbrev pub work_outcome : Result Work NoInput → Outcome
-work_outcome (Ok work) = replied (replies_to work.net work.lines)
+work_outcome (Ok work) = job_outcome work.net work.job
 work_outcome (Err end) = no_input end
 
 -- words that are no request

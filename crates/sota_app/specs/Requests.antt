@@ -13,3 +13,9 @@ pub record RunRequest : Type 0 where
   pub graph : List ℕ
   pub hists : List ℕ
   pub script : List ℕ
+
+-- 'check GRAPH HISTS POLICY': the three names
+pub record CheckRequest : Type 0 where
+  pub graph : List ℕ
+  pub hists : List ℕ
+  pub policy : List ℕ

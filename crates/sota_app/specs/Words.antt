@@ -5,7 +5,7 @@ use Rattle.std.specs.Str.{bytes_eq}
 use Rattle.sota_text.specs.Text.{number_of}
 use Rattle.sota_text.specs.Words.{three}
 use Rattle.sota_script.specs.declared.command.Ask3.{Ask3}
-use Rattle.sota_app.specs.Requests.{AskRequest, RunRequest}
+use Rattle.sota_app.specs.Requests.{AskRequest, RunRequest, CheckRequest}
 use Rattle.sota_app.specs.declared.words.Request.{Request}
 use Rattle.sota_app.specs.declared.words.Request.TheVariants as requests
 
@@ -33,6 +33,11 @@ abbrev pub run_request : List (List ℕ) → Option RunRequest
 run_request words =
     option_map (λ word. record { graph = word.0; hists = word.1; script = word.2 }) (three words)
 
+-- 'GRAPH HISTS POLICY' after 'check'
+abbrev pub check_request : List (List ℕ) → Option CheckRequest
+check_request words =
+    option_map (λ word. record { graph = word.0; hists = word.1; policy = word.2 }) (three words)
+
 -- the request of the words after the program's name, where they are one: the first word decides
 abbrev pub request_of : List (List ℕ) → Option Request
 request_of [] = None
@@ -41,4 +46,6 @@ request_of (first ∷ words) =
     option_map (λ request. requests.Ask request) (ask_request words)
     else (if bytes_eq first (codes "run") then
     option_map (λ request. requests.Run request) (run_request words)
-    else None)
+    else (if bytes_eq first (codes "check") then
+    option_map (λ request. requests.Check request) (check_request words)
+    else None))

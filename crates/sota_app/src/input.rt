@@ -5,6 +5,7 @@ ghost use Rattle.sota_app.specs.InputFaults.{fault_input, fault_word, fault_plac
 
 use sota_dimacs::GraphFault;
 use sota_histcsv::HistFileFault;
+use sota_polfile::{POLICY_LIMIT, PolicyFault};
 use sota_text::TextOut;
 use sota_units::{NoMemory, TEXT_LIMIT};
 use std::alloc::Global;
@@ -15,6 +16,7 @@ pub enum Input {
     Graph,
     Hists,
     Script,
+    Policy,
 }
 
 impl Input {
@@ -26,6 +28,7 @@ impl Input {
             Input::Graph => b"graph",
             Input::Hists => b"hists",
             Input::Script => b"script",
+            Input::Policy => b"policy",
         }
     }
 
@@ -35,6 +38,7 @@ impl Input {
     {
         match self {
             Input::Graph | Input::Hists | Input::Script => TEXT_LIMIT,
+            Input::Policy => POLICY_LIMIT,
         }
     }
 }
@@ -48,6 +52,8 @@ pub enum InputFault {
     Graph(GraphFault),
     /// The histograms have this fault, or the arcs that have none.
     Hists(HistFileFault),
+    /// The policy file has this fault.
+    Policy(PolicyFault),
 }
 
 /// Why there is no input.
@@ -70,6 +76,7 @@ impl InputFault {
             InputFault::TooLong(input) => input,
             InputFault::Graph(_) => Input::Graph,
             InputFault::Hists(_) => Input::Hists,
+            InputFault::Policy(_) => Input::Policy,
         }
     }
 
@@ -81,17 +88,19 @@ impl InputFault {
             InputFault::TooLong(_) => b"TooLong",
             InputFault::Graph(fault) => fault.word(),
             InputFault::Hists(fault) => fault.word(),
+            InputFault::Policy(fault) => fault.word(),
         }
     }
 
     /// The number that it carries.
-    fn place(self) -> u32
+    fn place(self) -> u64
         ensures { result ≡ fault_place self }
     {
         match self {
-            InputFault::TooLong(input) => input.limit(),
-            InputFault::Graph(fault) => fault.place(),
-            InputFault::Hists(fault) => fault.place(),
+            InputFault::TooLong(input) => u64::from(input.limit()),
+            InputFault::Graph(fault) => u64::from(fault.place()),
+            InputFault::Hists(fault) => u64::from(fault.place()),
+            InputFault::Policy(fault) => fault.place(),
         }
     }
 

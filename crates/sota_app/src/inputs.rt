@@ -2,12 +2,13 @@
 ghost use Rattle.std.specs.Prelude.{◌≡◌, ◌≤◌, length, IfOk};
 ghost use Rattle.sota_dimacs.specs.Graph.{IsGraph};
 ghost use Rattle.sota_units.specs.Limits.{TEXT_LIMIT};
+ghost use Rattle.sota_polfile.specs.Limits.{POLICY_LIMIT};
 ghost use Rattle.sota_app.specs.InputFaults.{input_limit};
 ghost use Rattle.sota_app.specs.Outcome.{input_bytes, read_graph, graph_of};
 ghost use Rattle.sota_app.specs.Outcome.{certain_hists, read_hists, with_hists, network_of};
-ghost use Rattle.sota_app.specs.Outcome.{work_of};
+ghost use Rattle.sota_app.specs.Outcome.{read_table, table_of, work_of};
 ghost use Rattle.sota_app.specs.Causes.{Unread, UnreadHists, UnreadNetwork, UnreadInput};
-ghost use Rattle.sota_app.specs.Inputs.{TextAnswers, InputAnswers, task_work, IsShort};
+ghost use Rattle.sota_app.specs.Inputs.{TextAnswers, InputAnswers, task_work, IsShortJob};
 
 use crate::input::{Input, InputFault, NoInput};
 use crate::words::Request;
@@ -15,17 +16,27 @@ use sota_dimacs::{GraphFault, RawGraph, read_graph};
 use sota_edge::{Desk, LoadError};
 use sota_histcsv::{HistFileFault, certain_network, read_histograms};
 use sota_network::Network;
+use sota_polfile::{PolicyFault, PolicyTable, read_policy};
 use sota_script::Ask3;
 use std::alloc::Global;
 
-/// A network, and the lines that are to be played on it.
+/// A network, and what is to be done on it.
 #[derive(Drop)]
 pub struct Task {
     pub network: Network,
-    pub script: Script,
+    pub job: Job,
 }
 
-/// The lines of a task.
+/// What is to be done on a network.
+#[derive(Drop)]
+pub enum Job {
+    /// Lines are to be played.
+    Play(Script),
+    /// A policy is to be judged.
+    Judge(PolicyTable),
+}
+
+/// Lines that are to be played.
 #[derive(Drop)]
 pub enum Script {
     /// One line with this ask.
@@ -135,7 +146,28 @@ fn load_network<D: Desk>(
     load_hists(alloc, hists, roads, desk)
 }
 
-/// The network of the files that a request names, and its lines.
+/// The policy of the bytes of a file.
+fn parse_policy(alloc: Global, bytes: &[u8]) -> Result<PolicyTable, NoInput>
+    requires { length bytes.now ≤ POLICY_LIMIT }
+    ensures { TextAnswers result (read_table bytes.now) }
+{
+    match read_policy(alloc, bytes) {
+        Ok(table) => Ok(table),
+        Err(PolicyFault::NoMemory) => Err(NoInput::NoMemory),
+        Err(fault) => Err(NoInput::Fault(InputFault::Policy(fault))),
+    }
+}
+
+/// The policy that the file of this name holds.
+fn load_policy<D: Desk>(alloc: Global, name: &str, desk: &mut D) -> Result<PolicyTable, NoInput>
+    ensures { InputAnswers (λ table. table) result (table_of name.now) (Unread name.now)
+        (D.state desk.old) (D.state desk.new) }
+{
+    let bytes = load_input(alloc, Input::Policy, name, desk)?;
+    parse_policy(alloc, &bytes)
+}
+
+/// The network of the files that a request names, and what is to be done on it.
 pub fn load_task<D: Desk>(
     alloc: Global,
     request: &Request<'_>,
@@ -143,18 +175,24 @@ pub fn load_task<D: Desk>(
 ) -> Result<Task, NoInput>
     ensures read { InputAnswers task_work result (work_of request.now) (UnreadInput request.now)
         (D.state desk.old) (D.state desk.new) }
-    ensures short { IfOk result (λ task. IsShort task.script) }
+    ensures short { IfOk result (λ task. IsShortJob task.job) }
 {
     match request {
         Request::Ask(words) => {
             let network = load_network(alloc, words.graph, words.hists, desk)?;
-            let script = Script::Ask(words.ask);
-            Ok(Task { network, script })
+            let job = Job::Play(Script::Ask(words.ask));
+            Ok(Task { network, job })
         }
         Request::Run(words) => {
             let network = load_network(alloc, words.graph, words.hists, desk)?;
-            let script = Script::Text(load_input(alloc, Input::Script, words.script, desk)?);
-            Ok(Task { network, script })
+            let text = load_input(alloc, Input::Script, words.script, desk)?;
+            let job = Job::Play(Script::Text(text));
+            Ok(Task { network, job })
+        }
+        Request::Check(words) => {
+            let network = load_network(alloc, words.graph, words.hists, desk)?;
+            let job = Job::Judge(load_policy(alloc, words.policy, desk)?);
+            Ok(Task { network, job })
         }
     }
 }

@@ -11,10 +11,25 @@ use std::sync::ledger::{Blank, Ledger};
 use std::test::Fail;
 
 // Roads from 1 to 2 and from 2 to 3 in one tick each, and from 1 to 3 in three.
-const TRIANGLE: &[u8] = b"p sp 3 3\na 1 2 1\na 2 3 1\na 1 3 3\n";
+pub(crate) const TRIANGLE: &[u8] = b"p sp 3 3\na 1 2 1\na 2 3 1\na 1 3 3\n";
 
 // Over 4: the second road takes one or three ticks, and the third three or five.
-const TIMES: &[u8] = b"arc,tick,mass/4\n2,1,2\n2,3,2\n3,3,3\n3,5,1\n";
+pub(crate) const TIMES: &[u8] = b"arc,tick,mass/4\n2,1,2\n2,3,2\n3,3,3\n3,5,1\n";
+
+// The policy of the triangle from 1 to 3 in 3 ticks, and of a road of 5 ticks.
+pub(crate) const TRIANGLE_POLICY: &[u8] =
+    b"SOTAPOL1\0\0\0\x03\0\0\0\x03\0\0\0\x01\0\0\0\x03\0\0\0\x04\0\0\0\x02\
+\0\0\0\x01\0\0\0\x02\0\0\0\x02\
+\0\0\0\x01\x06\xf0\x5b\x59\xd3\xb2\0\0\
+\0\0\0\x03\x0a\x68\x89\x06\xbd\x8b\0\0\
+\0\0\0\x02\0\0\0\x01\0\0\0\x02\
+\0\0\0\x02\x06\xf0\x5b\x59\xd3\xb2\0\0\
+\0\0\0\x02\x06\xf0\x5b\x59\xd3\xb2\0\0";
+
+pub(crate) const ROAD_POLICY: &[u8] =
+    b"SOTAPOL1\0\0\0\x02\0\0\0\x02\0\0\0\x01\0\0\0\x05\0\0\0\x01\0\0\0\x01\
+\0\0\0\x01\0\0\0\x05\0\0\0\x01\
+\0\0\0\x01\x0d\xe0\xb6\xb3\xa7\x64\0\0";
 
 fn run_counted<D: Desk, O: Sink, L: Ledger>(
     alloc: Global,
@@ -32,7 +47,7 @@ fn run_counted<D: Desk, O: Sink, L: Ledger>(
 }
 
 /// Runs the words of a line.
-fn run_line<D: Desk, O: Sink>(
+pub(crate) fn run_line<D: Desk, O: Sink>(
     alloc: Global,
     line: &str,
     desk: &mut D,
@@ -181,7 +196,7 @@ fn replies(rt: HostRuntime) -> Result<(), Fail> {
             Status::Words,
         ),
         (TRIANGLE, "run g -", b"refused words\n", Status::Words),
-        (TRIANGLE, "check g - s", b"refused words\n", Status::Words),
+        (TRIANGLE, "checks g - s", b"refused words\n", Status::Words),
         (TRIANGLE, "ask nowhere h 1 3 2", b"", Status::ReadFault),
         (TRIANGLE, "ask g nowhere 1 3 2", b"", Status::ReadFault),
         (
@@ -553,25 +568,13 @@ fn policies_are_stored(rt: HostRuntime) -> Result<(), Fail> {
         script: b"policy 1 3 3 p.pol",
         ..NET_A
     };
-    let triangle_policy = b"SOTAPOL1\0\0\0\x03\0\0\0\x03\0\0\0\x01\0\0\0\x03\0\0\0\x04\0\0\0\x02\
-\0\0\0\x01\0\0\0\x02\0\0\0\x02\
-\0\0\0\x01\x06\xf0\x5b\x59\xd3\xb2\0\0\
-\0\0\0\x03\x0a\x68\x89\x06\xbd\x8b\0\0\
-\0\0\0\x02\0\0\0\x01\0\0\0\x02\
-\0\0\0\x02\x06\xf0\x5b\x59\xd3\xb2\0\0\
-\0\0\0\x02\x06\xf0\x5b\x59\xd3\xb2\0\0"
-        .as_slice();
     let road = Texts {
         graph: b"p sp 2 1\na 1 2 5\n",
         script: b"policy 1 2 5 q",
         ..NET_A
     };
-    let road_policy = b"SOTAPOL1\0\0\0\x02\0\0\0\x02\0\0\0\x01\0\0\0\x05\0\0\0\x01\0\0\0\x01\
-\0\0\0\x01\0\0\0\x05\0\0\0\x01\
-\0\0\0\x01\x0d\xe0\xb6\xb3\xa7\x64\0\0"
-        .as_slice();
-    assert!(rt; stores(alloc, &triangle, "h", "p.pol", triangle_policy)?);
-    assert!(rt; stores(alloc, &road, "-", "q", road_policy)?);
+    assert!(rt; stores(alloc, &triangle, "h", "p.pol", TRIANGLE_POLICY)?);
+    assert!(rt; stores(alloc, &road, "-", "q", ROAD_POLICY)?);
     Ok(())
 }
 

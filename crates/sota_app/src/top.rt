@@ -2,24 +2,29 @@
 ghost use Rattle.std.specs.Prelude.{◌≡◌, ◌≢◌, Some, Err, IfOk, map, string_bytes};
 ghost use Rattle.sota_edge.specs.Counts.{Rose};
 ghost use Rattle.sota_edge.specs.Desk.{Files};
-ghost use Rattle.sota_app.specs.Outputs.{LineEnds};
+ghost use Rattle.sota_network.specs.Network.{Net};
+ghost use Rattle.sota_polfile.specs.Table.{Table};
+ghost use Rattle.sota_app.specs.Outputs.{Ends, LineEnds};
 ghost use Rattle.sota_app.specs.Words.{request_of};
-ghost use Rattle.sota_app.specs.Inputs.{NoInputWritten};
-ghost use Rattle.sota_app.specs.Outcome.{outcome, refused_words};
+ghost use Rattle.sota_app.specs.Inputs.{NoInputWritten, IsShortJob, job_of};
+ghost use Rattle.sota_app.specs.Outcome.{outcome, refused_words, job_outcome};
 ghost use Rattle.sota_app.specs.Causes.{Ended, Delivered, NoFault, status_of};
-ghost use Rattle.sota_app.specs.Meaning.{AskLine, IsAnswered, Meant};
+ghost use Rattle.sota_app.specs.Meaning.{AskLine, IsAnswered, Meant, IsJudged, Attested};
 
+use crate::checking::check_policy;
 use crate::input::NoInput;
-use crate::inputs::{Task, load_task};
+use crate::inputs::{Job, Task, load_task};
 use crate::output::write_line;
 use crate::player::play_lines;
 use crate::status::Status;
 use crate::stop::Stop;
 use crate::words::read_words;
+use sota_check::laws::{certified_attains, passed_policies_hold};
 use sota_dimacs::laws::texts_mean_graphs;
 use sota_edge::{Desk, Sink, put_all};
 use sota_hist::laws::built_times;
 use sota_histcsv::laws::texts_mean_networks;
+use sota_network::Network;
 use sota_network::laws::{edits_keep_networks, grid_encloses};
 use sota_units::Steps;
 use std::alloc::Global;
@@ -51,6 +56,30 @@ fn refuse_input<O: Sink>(alloc: Global, end: NoInput, out: &mut O) -> Result<Sta
     }
 }
 
+/// Does what is to be done on a network. The status is the one of what was written.
+fn do_job<D: Desk, O: Sink, P: Ledger>(
+    alloc: Global,
+    network: Network,
+    job: Job,
+    desk: &mut D,
+    out: &mut O,
+    pushes: &mut Steps<P>,
+) -> Result<Status, Stop>
+    requires { IsShortJob job }
+    ensures made { Ends result (job_outcome network (job_of job)).outputs
+        (D.state desk.old) (D.state desk.new) (O.state out.old) (O.state out.new) }
+    ensures status { IfOk result (λ status.
+        status ≡ (job_outcome network (job_of job)).status) }
+{
+    match job {
+        Job::Play(script) => {
+            let blank = Blank::new(1);
+            play_lines::<D, O, Brand, P>(alloc, network, &script, desk, out, blank, pushes)
+        }
+        Job::Judge(table) => check_policy(alloc, &network, &table, out),
+    }
+}
+
 /// Does what the words ask for. The status is the one of what was written.
 fn serve<D: Desk, O: Sink, P: Ledger>(
     alloc: Global,
@@ -66,15 +95,7 @@ fn serve<D: Desk, O: Sink, P: Ledger>(
         return refuse_words(out);
     };
     match load_task(alloc, &request, desk) {
-        Ok(Task { network, script }) => play_lines::<D, O, Brand, P>(
-            alloc,
-            network,
-            &script,
-            desk,
-            out,
-            Blank::new(1),
-            pushes,
-        ),
+        Ok(Task { network, job }) => do_job(alloc, network, job, desk, out, pushes),
         Err(end) => refuse_input(alloc, end, out),
     }
 }
@@ -108,12 +129,21 @@ pub fn run<D: Desk, O: Sink, P: Ledger>(
         → result ≢ Status.NoMemory
         → IsAnswered (map string_bytes words.now) files line
         → Meant line (O.state out.old) (O.state out.new) }
+
+    // And where a policy was to be judged and all is done, it holds, and following it attains the
+    // probability that was written.
+    ensures accepted { (files : Files) (net : Net) (table : Table)
+        → (D.state desk.old).holds ≡ Some files → result ≡ Status.Done
+        → IsJudged (map string_bytes words.now) files net table
+        → Attested net table (O.state out.old) (O.state out.new) }
 {
     texts_mean_graphs();
     texts_mean_networks();
     built_times();
     edits_keep_networks();
     grid_encloses();
+    passed_policies_hold();
+    certified_attains();
     match serve(alloc, words, desk, out, pushes) {
         Ok(status) => status,
         Err(Stop::PutFailed | Stop::StoreFailed) => Status::WriteFault,

@@ -1,6 +1,7 @@
 // The words of the command line.
 ghost use Rattle.std.specs.Prelude.{◌≡◌, map, string_bytes, option_map};
-ghost use Rattle.sota_app.specs.Words.{ask_of, ask_request, run_request, request_of, five};
+ghost use Rattle.sota_app.specs.Words.{ask_of, ask_request, run_request, check_request};
+ghost use Rattle.sota_app.specs.Words.{request_of, five};
 ghost use Rattle.sota_text.specs.Words.{three};
 
 use sota_script::Ask3;
@@ -47,6 +48,27 @@ impl<'a> Model for RunWords<'a> {
     } };
 }
 
+/// The words `check GRAPH HISTS POLICY`: the names of the graph, of the histograms and of the
+/// policy.
+#[derive(Drop)]
+pub struct CheckWords<'a> {
+    pub graph: &'a str,
+    pub hists: &'a str,
+    pub policy: &'a str,
+}
+
+impl<'a> Model for CheckWords<'a> {
+    ghost use Rattle.sota_app.specs.Requests.{CheckRequest};
+
+    ghost Value = { CheckRequest };
+
+    ghost view = { λ words. record {
+      graph = words.graph.now;
+      hists = words.hists.now;
+      policy = words.policy.now;
+    } };
+}
+
 /// What the words ask for.
 #[derive(Drop)]
 pub enum Request<'a> {
@@ -54,6 +76,8 @@ pub enum Request<'a> {
     Ask(AskWords<'a>),
     /// Every line of a script in order.
     Run(RunWords<'a>),
+    /// Whether a policy holds.
+    Check(CheckWords<'a>),
 }
 
 /// The request of the words after the program's name. None exactly where they are no request.
@@ -65,6 +89,8 @@ pub fn read_words(words: &[String]) -> Option<Request<'_>>
         Some(Request::Ask(read_ask_words(rest)?))
     } else if first.as_str() == "run" {
         Some(Request::Run(read_run_words(rest)?))
+    } else if first.as_str() == "check" {
+        Some(Request::Check(read_check_words(rest)?))
     } else {
         None
     }
@@ -88,6 +114,18 @@ fn read_run_words(words: &[String]) -> Option<RunWords<'_>>
         graph,
         hists,
         script,
+    })
+}
+
+/// The words `GRAPH HISTS POLICY`.
+fn read_check_words(words: &[String]) -> Option<CheckWords<'_>>
+    ensures { result ≡ check_request (map string_bytes words.now) }
+{
+    let (graph, hists, policy) = three_words(words)?;
+    Some(CheckWords {
+        graph,
+        hists,
+        policy,
     })
 }
 

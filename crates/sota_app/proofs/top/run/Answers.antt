@@ -1,15 +1,19 @@
-use Rattle.std.proofs.Common.{refl, List, ℕ, map, string_bytes}
+use Rattle.std.proofs.Common.{refl, List, ℕ, map, string_bytes, subst}
 use Rattle.sota_edge.specs.Desk.{DeskState}
 use Rattle.sota_edge.specs.Sink.{SinkState}
 use Rattle.sota_network.specs.Network.{IsNet}
 use Rattle.sota_session.specs.Asks.{answer_of}
 use Rattle.sota_app.specs.Script.{session_ask}
 use Rattle.sota_app.specs.Words.{request_of}
-use Rattle.sota_app.specs.Outcome.{outcome}
+use Rattle.sota_check.specs.Certified.{rule, IsCertified}
+use Rattle.sota_app.specs.Outcome.{outcome, judge}
 use Rattle.sota_app.specs.Causes.{Delivered, Ended}
 use Rattle.sota_app.specs.Meaning.{line_net}
-use Rattle.sota_app.proofs.Exact.{exact}
-use Rattle.sota_app.proofs.Answered.{line_written, line_valid}
+use Rattle.sota_app.specs.declared.status.Status.{Status}
+use Rattle.sota_app.specs.declared.status.Status.TheVariants.{Done}
+use Rattle.sota_app.proofs.Exact.{exact, done_stands}
+use Rattle.sota_app.proofs.Answered.{means_network, line_written, line_valid}
+use Rattle.sota_app.proofs.Judged.{IsPassed, judged_done}
 use Rattle.sota_app.proofs.top.run.Goals as goal
 
 pub returns-in-Ok-clause-exact : goal.returns-in-Ok-clause-exact
@@ -55,4 +59,34 @@ returns-in-Ok-clause-meaning g c = λ files line tells none ran answered.
         fits = law.fits net _ ask.dest ask.origin ask.budget valid;
         attains = law.attains net ask.dest ask.origin ask.budget valid;
       };
+    }
+
+pub returns-in-Ok-clause-accepted : goal.returns-in-Ok-clause-accepted
+returns-in-Ok-clause-accepted g c = λ files net table tells is judged.
+    let words : List (List ℕ) = map (λ word. string_bytes word) c.args.words.now in
+    let d : DeskState = g.D.Desk.state c.args.desk.now in
+    let e : DeskState = g.D.Desk.state c.serve.new.desk in
+    let s : SinkState = g.O.Sink.state c.args.out.now in
+    let t : SinkState = g.O.Sink.state c.serve.new.out in
+    let ended : Ended Done (request_of words) d e s t =
+    subst (λ (status : Status). Ended status (request_of words) d e s t) is c.in-Ok.ensures in
+    let all : Delivered (outcome words files) Done d e s t =
+    done_stands (request_of words) files d e s t tells ended.cause in
+    let passed : IsPassed net table s t =
+    judged_done net table (request_of words) files d e s t judged all in
+    let valid : IsNet net =
+    means_network c.texts_mean_graphs.ensures c.texts_mean_networks.ensures.text
+    c.texts_mean_networks.ensures.weights (request_of words) files
+    (record { net = net; job = judge table }) judged in
+    let holds : IsCertified net table =
+    c.passed_policies_hold.ensures.holds net table passed.none in
+    let head = table.head in
+    record {
+      written = passed.written;
+      holds = holds;
+      fits = c.grid_encloses.ensures.fits net (rule table) head.dest head.origin head.budget
+          valid;
+      attains = c.certified_attains.ensures.attains net table head.origin head.budget valid
+          holds;
+      whole = c.certified_attains.ensures.whole net table head.origin head.budget valid holds;
     }

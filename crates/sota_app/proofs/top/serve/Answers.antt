@@ -24,12 +24,12 @@ returns-in-Ok g c =
     let is : Some c.in-Some.request ≡ request_of words = search rules in
     let d : DeskState = g.D.Desk.state c.args.desk.now in
     let m : DeskState = g.D.Desk.state c.load_task.new.desk in
-    let e : DeskState = g.D.Desk.state c.play_lines.new.desk in
+    let e : DeskState = g.D.Desk.state c.do_job.new.desk in
     let s : SinkState = g.O.Sink.state c.args.out.now in
-    let t : SinkState = g.O.Sink.state c.play_lines.new.out in
-    subst (λ (o : Option Request). Ended (status_of c.play_lines.result) o d e s t) is
-    (ok_ended task_work c.in-Some.request c.in-Ok.field-0 c.play_lines.result d m e s t
-    c.in-Ok.ensures.read c.play_lines.ensures.made c.play_lines.ensures.status)
+    let t : SinkState = g.O.Sink.state c.do_job.new.out in
+    subst (λ (o : Option Request). Ended (status_of c.do_job.result) o d e s t) is
+    (ok_ended task_work c.in-Some.request c.in-Ok.field-0 c.do_job.result d m e s t
+    c.in-Ok.ensures.read c.do_job.ensures.made c.do_job.ensures.status)
 
 pub returns-in-Err : goal.returns-in-Err
 returns-in-Err g c =

@@ -1,4 +1,4 @@
-use Rattle.sota_app.proofs.top.serve.Given as goal
+use Rattle.sota_app.proofs.top.do_job.Given as goal
 
 -- the ledger of the products is that of the blank
 abbrev pub ghosts-play_lines : goal.ghosts-play_lines

@@ -1,0 +1,45 @@
+-- The verdict on a policy, and its line.
+use Rattle.std.specs.Prelude.{ℕ, List, [], ◌++◌, Option, None, Some, codes, decimal}
+use Rattle.sota_units.specs.GrainText.{grain_spelling}
+use Rattle.sota_polfile.specs.Table.{Table}
+use Rattle.sota_check.specs.Certified.{value}
+use Rattle.sota_check.specs.Words.{cause_word, cause_entry}
+use Rattle.sota_check.specs.declared.verdict.Certified.{Certified}
+use Rattle.sota_check.specs.declared.verdict.Rejection.{Rejection}
+use Rattle.sota_app.specs.declared.status.Status.{Status}
+use Rattle.sota_app.specs.declared.status.Status.TheVariants.{Done, SomeRefused}
+
+-- 'accepted O D T LOWER'
+abbrev pub accepted_line : Certified → List ℕ
+accepted_line certified =
+    codes "accepted " ++ decimal certified.origin ++ codes " " ++ decimal certified.dest
+    ++ codes " " ++ decimal certified.budget ++ codes " " ++ grain_spelling certified.lower
+    ++ codes "\n"
+
+-- the node and the budget of an entry
+abbrev pub entry_text : Option (ℕ × ℕ) → List ℕ
+entry_text None = []
+entry_text (Some entry) = codes " " ++ decimal entry.0 ++ codes " " ++ decimal entry.1
+
+-- 'rejected CAUSE', with the node and the budget where the cause is of an entry
+abbrev pub rejected_line : Rejection → List ℕ
+rejected_line cause =
+    codes "rejected " ++ cause_word cause ++ entry_text (cause_entry cause) ++ codes "\n"
+
+-- what a policy names: its ask, and the value that it claims
+abbrev pub named : Table → Certified
+named table = record {
+  origin = table.head.origin;
+  dest = table.head.dest;
+  budget = table.head.budget;
+  lower = value table table.head.origin table.head.budget;
+}
+
+-- by the cause for which the policy is rejected, where there is one
+abbrev pub verdict_line : Table → Option Rejection → List ℕ
+verdict_line table None = accepted_line (named table)
+verdict_line table (Some cause) = rejected_line cause
+
+abbrev pub verdict_status : Option Rejection → Status
+verdict_status None = Done
+verdict_status (Some cause) = SomeRefused
