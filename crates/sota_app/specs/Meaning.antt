@@ -87,9 +87,9 @@ abbrev pub journey : Net → Table → Tree
 journey net table =
     follow net (rule table) table.head.dest table.head.origin table.head.budget
 
--- The line 'accepted O D T LOWER' was written, with the ask of the policy and the value, in units of
--- ten to the minus eighteenth, that it names. Each entry of the policy holds. Who follows its arcs
--- arrives in time with at least that probability, and it is at most one.
+-- The line 'accepted O D T LOWER' was written, with the ask of the policy and the value that it
+-- names, in units of ten to the minus eighteenth. Each entry of the policy holds. Who follows its
+-- arcs arrives in time with at least that probability, and it is at most one.
 pub record Attested (net : Net) (table : Table) (old new : SinkState) : Type 0 where
   pub written : Wrote (accepted_line (named table)) old new
   pub holds : IsCertified net table

@@ -589,8 +589,8 @@ answer 1 3 2 1.000000000000000000 1.000000000000000000 1
 stored p
 ";
     let texts = Texts { script, ..NET_A };
-    // The words, the call of the desk that fails, the most bytes of a put, the put that fails (0 for
-    // none), how many bytes are then written, the status, and whether the policy is stored.
+    // The words, the call of the desk that fails, the most bytes of a put, the put that fails (0
+    // for none), how many bytes are then written, the status, and whether the policy is stored.
     let rows: [(&str, u32, u32, u32, usize, Status, bool); 14] = [
         ("run g h s", 0, 1000, 0, 132, Status::Done, true),
         ("run g h s", 1, 1000, 0, 0, Status::ReadFault, false),

@@ -110,8 +110,8 @@ pub fn run<D: Desk, O: Sink, P: Ledger>(
     out: &mut O,
     pushes: &mut Steps<P>,
 ) -> Status
-    // Whatever happens, the status has its cause, some first outputs of the outcome are made, and at
-    // most the next one is begun.
+    // Whatever happens, the status has its cause, some first outputs of the outcome are made, and
+    // at most the next one is begun.
     ensures ended { Ended result (request_of (map string_bytes words.now))
         (D.state desk.old) (D.state desk.new) (O.state out.old) (O.state out.new) }
 
