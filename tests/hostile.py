@@ -105,6 +105,7 @@ class Hostile(InFolder):
             self.wants(["ask", name, "hists", "1", "3", "2"], UNREAD, b"")
             self.wants(["ask", "graph", name, "1", "3", "2"], UNREAD, b"")
             self.wants(["run", "graph", "hists", name], UNREAD, b"")
+            self.wants(["check", "graph", "hists", name], UNREAD, b"")
 
     def test_a_file_without_leave_to_read(self):
         """A file that the user may not read."""
@@ -144,6 +145,9 @@ class Hostile(InFolder):
             for stored in (name, "again"):
                 with open(self.path(stored), "rb") as plan:
                     self.assertEqual(plan.read(), PLAN)
+        self.write("graph", GRAPH)
+        self.wants(["check", "graph", "hists", "again"], DONE,
+                   b"accepted 1 3 3 0.750000000000000000\n")
 
     def feed(self, name, pieces):
         """Makes a FIFO, and writes the pieces to it from a thread."""
