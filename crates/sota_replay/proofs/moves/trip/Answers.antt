@@ -4,5 +4,5 @@ use Rattle.sota_replay.proofs.moves.trip.Goals as goal
 
 pub loop-node-smaller : goal.loop-node-smaller
 loop-node-smaller c =
-    let some : 1 ≤ c.in-Some-pick.tick = picked_positive c.draw.result _ c.in-Some.arc.now.time c.in-Some.ensures.valid (sym c.in-Some-pick.ensures.value) in
+    let some : 1 ≤ c.in-Some-pick.tick = picked_positive _ _ c.in-Some.arc.now.time c.in-Some.ensures.valid (sym c.in-Some-pick.ensures.value) in
     omega arith
