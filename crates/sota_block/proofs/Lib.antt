@@ -9,3 +9,4 @@ pub mod Limits
 pub mod Meetings
 pub mod Partners
 pub mod Sums
+pub mod PairSums

@@ -1,2 +1,3 @@
 pub mod Meeting
+pub mod Pairs
 pub mod Product

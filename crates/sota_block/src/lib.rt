@@ -7,6 +7,7 @@ mod fold;
 mod lanes;
 mod laws;
 mod narrow;
+mod pairs;
 mod plain;
 #[cfg(test)]
 mod tests;
@@ -15,4 +16,5 @@ mod wide;
 pub use eights::add_block;
 pub use fold::{fold_products, product_fold, scratch_len};
 pub use laws::{first_fold_counts, worked_coefficients};
+pub use pairs::pair_sums;
 pub use plain::product_plain;

@@ -111,6 +111,22 @@ impl Tables {
         self.bases[node.get() as usize - 1]
     }
 
+    /// Lends the fronts of all nodes: that of node `i` stands at index `i - 1`.
+    pub fn fronts(&self) -> &[u32]
+        ensures value { result.now ≡ self.now.fronts }
+        ensures valid { IsTablesView self.now }
+    {
+        self.fronts.as_slice()
+    }
+
+    /// Lends the bases of all nodes: that of node `i` stands at index `i - 1`.
+    pub fn bases(&self) -> &[u32]
+        ensures value { result.now ≡ self.now.bases }
+        ensures valid { IsTablesView self.now }
+    {
+        self.bases.as_slice()
+    }
+
     /// Lends the lower bounds of a node, from its base on.
     pub fn lower_row(&self, node: NodeId) -> &[Grain]
         requires { HasNode self.now node }
