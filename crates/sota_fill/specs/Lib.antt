@@ -1,0 +1,4 @@
+pub mod Fed
+pub mod Fills
+pub mod Laws
+pub mod Rows

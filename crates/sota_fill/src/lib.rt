@@ -1,0 +1,12 @@
+//! Fills the entries of a node at budgets in a row, by the sums of the arcs that leave it.
+#![tactic(auto)]
+
+mod bests;
+mod broad;
+mod fill;
+pub mod laws;
+mod sums;
+
+pub use bests::base_of;
+pub use broad::Summers;
+pub use fill::fill_extent;

@@ -1,0 +1,7 @@
+pub mod Extended
+pub mod Extending
+pub mod FedMore
+pub mod Preparing
+pub mod Readying
+pub mod Stepping
+pub mod SumGoing

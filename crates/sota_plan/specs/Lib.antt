@@ -1,0 +1,5 @@
+pub mod Extends
+pub mod Laws
+pub mod Runs
+pub mod Steps
+pub mod Summed
