@@ -36,6 +36,27 @@ fed-next old new v time base f fed room at is =
       below = fed.below;
     })
 
+-- ---- a summer was fed on, until so many values are fed: value `a` is the given one
+pub record FedTo (old now : SummerState) (count index : ℕ) (value : ℕ → ℕ) : Type 0 where
+  pub fed : (time : List (ℕ × ℕ)) (base : ℕ) (f : ℕ → ℕ) → IsFed old time base f → ((a : ℕ) → a < count → value a ≡ f (base + a)) → IsFed now time base f
+  pub count_is : length now.values ≡ index
+  pub low : length old.values ≤ index
+  pub high : index ≤ max (length old.values) count
+  pub total : length now.values + now.room ≡ length old.values + old.room
+
+pub fed-to-more : (old now new : SummerState) (count index v : ℕ) (value : ℕ → ℕ) → FedTo old now count index value → index < count → count ≤ length old.values + old.room → v ≡ value index → new ≡ fed_more v now → FedTo old new count (index + 1) value
+fed-to-more old now new count index v value to less room is at =
+    let more : length new.values ≡ length now.values + 1 = ap (λ (s : SummerState). length s.values) at ∙ length-append now.values (v ∷ []) in
+    let left : new.room ≡ now.room - 1 = ap (λ (s : SummerState). s.room) at in
+    let some : 1 ≤ now.room = omega (arith, less, room, to.total, to.count_is) in
+    record {
+      fed = λ time base f start agree. fed-next now new v time base f (to.fed time base f start agree) some at (is ∙ agree index less ∙ ap (λ (n : ℕ). f (base + n)) (sym to.count_is));
+      count_is = omega (arith, more, to.count_is);
+      low = omega (arith, to.low);
+      high = omega (arith, less);
+      total = omega (arith, more, left, some, to.total);
+    }
+
 -- ---- what a row has at a budget from a base on
 pub get_or-default : {X : Type 0} (xs : List X) (k : ℕ) (d e : X) → k < length xs → get_or xs k d ≡ get_or xs k e
 get_or-default [] k d e h = absurd (omega arith)
@@ -69,12 +90,10 @@ base-low net dest i s is =
     ⊎_elim (λ (low : s.base ≤ least_to net dest i). low) (λ (low : s.front ≤ least_to net dest i). let same : s.base ≡ least_to net dest i = is.based low in omega arith) is.settled.kept.least
 
 -- ---- the summers of an arc, by its number
-pub summers-read : {Z : Type 0} (broad : SummersList Z) (e i : ℕ) (found : Option (Box (Summers Z) Global)) (two : Box (Summers Z) Global) → i ≡ e → i - 1 < length broad
-    → found ≡ get_or broad (i - 1) found → found ≡ Some two → summers_at broad e ≡ Some two.value
-summers-read {Z} broad e i found two same within read is =
-    let there : get_or broad (i - 1) found ≡ get_or broad (i - 1) None = get_or-default broad (i - 1) found None within in
-    let at : found ≡ get_or broad (e - 1) None = read ∙ there ∙ ap (λ (n : ℕ). get_or broad (n - 1) None) same in
-    ap unboxed (sym at ∙ is)
+pub summers-read : {Z : Type 0} (broad : SummersList Z) (e i : ℕ) (d : Option (Box (Summers Z) Global)) (two : Box (Summers Z) Global) → i ≡ e → i - 1 < length broad → get_or broad (i - 1) d ≡ Some two → summers_at broad e ≡ Some two.value
+summers-read {Z} broad e i d two same within is =
+    let at : get_or broad (e - 1) None ≡ Some two = ap (λ (n : ℕ). get_or broad (n - 1) None) (sym same) ∙ get_or-default broad (i - 1) None d within ∙ is in
+    ap unboxed at
 
 pub summers-set : {Z : Type 0} (broad : SummersList Z) (e i : ℕ) (two : Box (Summers Z) Global) → i ≡ e → i - 1 < length broad → summers_at (set broad (i - 1) (Some two)) e ≡ Some two.value
 summers-set {Z} broad e i two same within =

@@ -29,13 +29,9 @@ use Rattle.sota_plan.specs.Runs.{ArcSums, RunView, states_of, sums_at, is_broad,
 use Rattle.sota_plan.specs.Summed.{IsSummed, SummedAs, CanFeed, AllCanFeed, values_below}
 use Rattle.sota_plan.specs.Extends.{ArcSummed, AllSummed, fed_so_far}
 use Rattle.sota_plan.specs.Laws.{TimeLaws}
+use Rattle.sota_plan.proofs.FedMore.{get_or-default}
 
 -- an arc that has a number has one from 1 on
-get_or-default : {X : Type 0} (xs : List X) (k : ℕ) (d e : X) → k < length xs → get_or xs k d ≡ get_or xs k e
-get_or-default [] k d e h = absurd (omega arith)
-get_or-default (x ∷ xs) zero d e h = refl
-get_or-default (x ∷ xs) (suc k) d e h = get_or-default xs k d e (omega arith)
-
 number-low : (net : Net) (e : ℕ) (arc : Arc) → arc_at net e ≡ Some arc → 1 ≤ e
 number-low net zero arc at = absurd (none-some arc at)
 number-low net (suc e) arc at = omega arith
@@ -246,9 +242,9 @@ sums-get {Z} state broad e = map-default (states_of state) broad (e - 1) None
 some-is : {X : Type 0} (x y : X) → Some x ≡ Some y → x ≡ y
 some-is x y both = cc
 
-none-states : {Z : Type 0} {state : Z → SummerState} (o : Option (Box (Summers Z) Global)) → unboxed o ≡ None → states_of state o ≡ None
-none-states {Z} {state} None are = refl
-none-states {Z} {state} (Some two) are = absurd (none-some two.value (sym are))
+none-states : {Z : Type 0} (state : Z → SummerState) (o : Option (Box (Summers Z) Global)) → unboxed o ≡ None → states_of state o ≡ None
+none-states state None are = refl
+none-states state (Some two) are = absurd (none-some two.value (sym are))
 
 fed-none : (net : Net) (dest : ℕ) → TimeLaws net dest → (arc : Arc) (total : ℕ) (s : SummerState) (f : ℕ → ℕ) → s ≡ unfed total arc → ((u : ℕ) → u < least_to net dest arc.head → f u ≡ 0)
     → IsFed s arc.time (least_to net dest arc.head) f × (length s.values ≡ 0) × (length s.values + s.room ≡ total)
@@ -427,7 +423,7 @@ module _ {Z : Type 0} (state : Z → SummerState) (net : Net) (region : AskRegio
       }
 
   pub spent-none : (before next : TablesView) (broad : SummersList Z) → AllSummed state net region before next broad → (e : ℕ) (arc : Arc) → arc_at net e ≡ Some arc → is_broad net region arc ≡ false → get_or (map (states_of state) broad) (e - 1) None ≡ None
-  spent-none before next broad all e arc at thin = sums-get state broad e ∙ none-states (get_or broad (e - 1) None) ((all e arc at).narrow thin)
+  spent-none before next broad all e arc at thin = sums-get state broad e ∙ none-states state (get_or broad (e - 1) None) ((all e arc at).narrow thin)
 
 -- a node's known end never falls
 pub grown-rise : (needed : ℕ) (old new : NodeTable) → IsGrownAt needed old new → known_end old ≤ known_end new

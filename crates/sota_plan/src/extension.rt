@@ -1,15 +1,9 @@
 // The entries that are missing, extent by extent.
-ghost use Rattle.std.specs.Prelude.{ℕ, ◌≡◌, ◌+◌, ◌-◌, ◌*◌, ◌≤◌, length, slice_index};
-ghost use Rattle.sota_units.specs.Limits.{BUDGET_LIMIT};
-ghost use Rattle.sota_network.specs.Network.{IsNet, IsNode};
-ghost use Rattle.sota_bounds.specs.Regions.{IsRegion};
-ghost use Rattle.sota_kept.specs.NodeTables.{AreReady, IsGrownAt, known_end};
+ghost use Rattle.std.specs.Prelude.{◌≡◌, ◌+◌, ◌*◌, map};
 ghost use Rattle.sota_kept.specs.States.{grown_state, missing_in};
 ghost use Rattle.sota_kept.specs.TableLists.{IsSettled, state_of};
-ghost use Rattle.sota_order.specs.Orders.{CanBeMet, need_at};
-ghost use Rattle.sota_tables.specs.Views.{SameNodes, lists_of, table_at};
-ghost use Rattle.sota_plan.specs.Extends.{Agrees, AllSummed, left_of};
-ghost use Rattle.sota_plan.specs.Runs.{IsReady, IsSpent};
+ghost use Rattle.sota_tables.specs.Views.{lists_of};
+ghost use Rattle.sota_plan.specs.Runs.{IsReady, IsSpent, states_of};
 
 use crate::feeding::feed_extent;
 use crate::laws::region_laws;
@@ -36,32 +30,28 @@ fn extend_all<Z: Summer, M: Ledger, P: Ledger>(
     products: &mut Steps<M>,
     pushes: &mut Steps<P>,
 )
-    requires valid { IsNet network.now }
-    requires region { IsRegion region.now network.now region.now.origin region.now.dest
-        region.now.budget }
-    requires budget { region.now.budget ≤ BUDGET_LIMIT }
-    requires node { IsNode network.now region.now.dest }
-    requires dest { order.old.dest ≡ region.now.dest }
-    requires needs { order.old.needs ≡ region.now.need }
-    requires can { CanBeMet network.now order.old }
-    requires agrees { Agrees network.now order.old tables.old }
-    requires ready { AreReady network.now region.now.dest (table_at tables.old) }
-    requires broad { length broad.old ≡ length network.now.arcs }
-    requires sums { AllSummed Z.state network.now region.now tables.old tables.old broad.old }
-    ensures ready { AreReady network.now region.now.dest (table_at tables.new) }
-    ensures met { (i : ℕ) → IsNode network.now i
-        → need_at order.old i ≤ known_end (table_at tables.new i) }
-    ensures grown { (i : ℕ) → IsNode network.now i
-        → IsGrownAt (need_at order.old i) (table_at tables.old i) (table_at tables.new i) }
-    ensures same { SameNodes tables.old tables.new }
-    ensures dest_table { table_at tables.new region.now.dest
-        ≡ table_at tables.old region.now.dest }
+    requires { IsReady (record {
+      region = region.now;
+      order = order.old;
+      sums = map (states_of Z.state) broad.old;
+    }) tables.old network.now }
+    ensures state { state_of (lists_of tables.new)
+        ≡ grown_state network.now region.now.origin region.now.dest region.now.budget
+        (state_of (lists_of tables.old)) }
+    ensures settled { IsSettled (lists_of tables.new) network.now }
     ensures count { pushes.new ≡ pushes.old
-        + 3 * left_of network.now.nodes order.old.needs (table_at tables.old) }
-    ensures sums { AllSummed Z.state network.now region.now tables.old tables.new broad.new }
-    ensures length { length broad.new ≡ length broad.old }
+        + 3 * missing_in network.now region.now.origin region.now.dest region.now.budget
+        (state_of (lists_of tables.old)) }
+    ensures spent { IsSpent tables.old (record {
+      region = region.now;
+      order = order.new;
+      sums = map (states_of Z.state) broad.new;
+    }) network.now }
 {
+    asks_end();
     region_laws();
+    tables_stay_right();
+    views_are_lists();
     let dest = region.dest;
     let least = region.least.as_slice();
     while let Some(extent) = order.next_extent(network) {
@@ -111,10 +101,6 @@ pub fn extend<Z: Summer, M: Ledger, P: Ledger>(
     ensures spent { IsSpent tables.old run.new network.now }
     ensures region { run.new.region ≡ run.old.region }
 {
-    asks_end();
-    region_laws();
-    tables_stay_right();
-    views_are_lists();
     extend_all(
         tables,
         network,

@@ -53,7 +53,7 @@ fn feed_ones<Z: Summer, M: Ledger>(summer: &mut Z, count: u32, products: &mut St
     requires room { count ≤ length (Z.state summer.old).values + (Z.state summer.old).room }
     ensures fed { (time : List (ℕ × ℕ)) (base : ℕ) (f : ℕ → ℕ)
         → IsFed (Z.state summer.old) time base f
-        → ((a : ℕ) → a < count → f (base + a) ≡ ONE)
+        → ((a : ℕ) → a < count → ONE ≡ f (base + a))
         → IsFed (Z.state summer.new) time base f }
     ensures count { length (Z.state summer.new).values
         ≡ max (length (Z.state summer.old).values) count }

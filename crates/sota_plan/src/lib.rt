@@ -12,3 +12,6 @@ mod summers;
 pub use extension::extend;
 pub use preparation::prepare;
 pub use run::Run;
+
+#[cfg(test)]
+mod tests;

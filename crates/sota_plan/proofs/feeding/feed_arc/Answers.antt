@@ -1,4 +1,4 @@
-use Rattle.std.proofs.Common.{ℕ, ◌≡◌, ◌≢◌, ◌+◌, ◌-◌, ◌<◌, ◌≤◌, length, slice_index_or, None, Some, sym, ◌∙◌, ap, subst, arith}
+use Rattle.std.proofs.Common.{ℕ, ◌≡◌, ◌≢◌, ◌+◌, ◌-◌, ◌<◌, ◌≤◌, length, slice_index_or, slice_set, None, Some, sym, ◌∙◌, ap, subst, arith}
 use Rattle.std.specs.Box.{with_value}
 use Rattle.sota_hist.specs.Time.{least_tick}
 use Rattle.sota_network.specs.Network.{Net}
@@ -18,7 +18,7 @@ feed_both-requires-clause-open g c =
     let two = c.in-Some.two.value in
     let within : c.get.result - 1 < length c.args.broad.now = omega (arith, c.requires.number, c.requires.broad, c.get.ensures) in
     let found : summers_at c.args.broad.now c.args.number ≡ Some two =
-    summers-read c.args.broad.now c.args.number c.get.result c.index-broad-get.result c.in-Some.two c.get.ensures within c.index-broad-get.is c.in-Some.is in
+    summers-read c.args.broad.now c.args.number c.get.result c.index-broad-get.result c.in-Some.two c.get.ensures within c.in-Some.is in
     let can : CanFeed g.Z.Summer.state net c.args.dest arc c.args.to two = c.requires.can arc two c.numbered-arc.ensures.value found in
     can.is.open_arc
 
@@ -29,7 +29,7 @@ feed_both-requires-clause-known g c = λ off.
     let two = c.in-Some.two.value in
     let within : c.get.result - 1 < length c.args.broad.now = omega (arith, c.requires.number, c.requires.broad, c.get.ensures) in
     let found : summers_at c.args.broad.now c.args.number ≡ Some two =
-    summers-read c.args.broad.now c.args.number c.get.result c.index-broad-get.result c.in-Some.two c.get.ensures within c.index-broad-get.is c.in-Some.is in
+    summers-read c.args.broad.now c.args.number c.get.result c.index-broad-get.result c.in-Some.two c.get.ensures within c.in-Some.is in
     let can : CanFeed g.Z.Summer.state net c.args.dest arc c.args.to two = c.requires.can arc two c.numbered-arc.ensures.value found in
     c.requires.known arc c.numbered-arc.ensures.value can.is.open_arc off
 
@@ -40,7 +40,7 @@ feed_both-requires-clause-lower_room g c =
     let two = c.in-Some.two.value in
     let within : c.get.result - 1 < length c.args.broad.now = omega (arith, c.requires.number, c.requires.broad, c.get.ensures) in
     let found : summers_at c.args.broad.now c.args.number ≡ Some two =
-    summers-read c.args.broad.now c.args.number c.get.result c.index-broad-get.result c.in-Some.two c.get.ensures within c.index-broad-get.is c.in-Some.is in
+    summers-read c.args.broad.now c.args.number c.get.result c.index-broad-get.result c.in-Some.two c.get.ensures within c.in-Some.is in
     let can : CanFeed g.Z.Summer.state net c.args.dest arc c.args.to two = c.requires.can arc two c.numbered-arc.ensures.value found in
     let base : c.base_of-base.result ≡ least_to net c.args.dest arc.head =
     c.base_of-base.ensures ∙ ap (λ (h : ℕ). up_to END_LIMIT (slice_index_or c.args.least.now (h - 1) None)) c.get-in-Some.ensures ∙ c.requires.least arc.head c.numbered-arc.ensures.valid.head.0 c.numbered-arc.ensures.valid.head.1 in
@@ -55,7 +55,7 @@ feed_both-requires-clause-upper_room g c =
     let two = c.in-Some.two.value in
     let within : c.get.result - 1 < length c.args.broad.now = omega (arith, c.requires.number, c.requires.broad, c.get.ensures) in
     let found : summers_at c.args.broad.now c.args.number ≡ Some two =
-    summers-read c.args.broad.now c.args.number c.get.result c.index-broad-get.result c.in-Some.two c.get.ensures within c.index-broad-get.is c.in-Some.is in
+    summers-read c.args.broad.now c.args.number c.get.result c.index-broad-get.result c.in-Some.two c.get.ensures within c.in-Some.is in
     let can : CanFeed g.Z.Summer.state net c.args.dest arc c.args.to two = c.requires.can arc two c.numbered-arc.ensures.value found in
     let base : c.base_of-base.result ≡ least_to net c.args.dest arc.head =
     c.base_of-base.ensures ∙ ap (λ (h : ℕ). up_to END_LIMIT (slice_index_or c.args.least.now (h - 1) None)) c.get-in-Some.ensures ∙ c.requires.least arc.head c.numbered-arc.ensures.valid.head.0 c.numbered-arc.ensures.valid.head.1 in
@@ -70,7 +70,7 @@ returns-in-Some-clause-fed g c = λ other count total number summed less.
     let two = c.in-Some.two.value in
     let within : c.get.result - 1 < length c.args.broad.now = omega (arith, c.requires.number, c.requires.broad, c.get.ensures) in
     let found : summers_at c.args.broad.now c.args.number ≡ Some two =
-    summers-read c.args.broad.now c.args.number c.get.result c.index-broad-get.result c.in-Some.two c.get.ensures within c.index-broad-get.is c.in-Some.is in
+    summers-read c.args.broad.now c.args.number c.get.result c.index-broad-get.result c.in-Some.two c.get.ensures within c.in-Some.is in
     let can : CanFeed g.Z.Summer.state net c.args.dest arc c.args.to two = c.requires.can arc two c.numbered-arc.ensures.value found in
     let base : c.base_of-base.result ≡ least_to net c.args.dest arc.head =
     c.base_of-base.ensures ∙ ap (λ (h : ℕ). up_to END_LIMIT (slice_index_or c.args.least.now (h - 1) None)) c.get-in-Some.ensures ∙ c.requires.least arc.head c.numbered-arc.ensures.valid.head.0 c.numbered-arc.ensures.valid.head.1 in

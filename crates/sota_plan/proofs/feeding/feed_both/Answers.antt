@@ -8,13 +8,13 @@ pub returns-then-eq-clause-lower : goal.returns-then-eq-clause-lower
 returns-then-eq-clause-lower g c = λ f fed agree.
     let here : c.args.arc.now.head ≡ c.args.dest = search rules in
     c.feed_ones.ensures.fed c.args.arc.now.time c.args.base f fed
-    (λ a less. lower-one c.args.dest c.args.arc.now.head (c.args.base + a) (f (c.args.base + a)) (table_at c.args.tables.now) here (agree (c.args.base + a) (omega arith) (omega (arith, less))))
+    (λ a less. sym (lower-one c.args.dest c.args.arc.now.head (c.args.base + a) (f (c.args.base + a)) (table_at c.args.tables.now) here (agree (c.args.base + a) (omega arith) (omega (arith, less)))))
 
 pub returns-then-eq-clause-upper : goal.returns-then-eq-clause-upper
 returns-then-eq-clause-upper g c = λ f fed agree.
     let here : c.args.arc.now.head ≡ c.args.dest = search rules in
     c.feed_ones-then-eq.ensures.fed c.args.arc.now.time c.args.base f fed
-    (λ a less. upper-one c.args.dest c.args.arc.now.head (c.args.base + a) (f (c.args.base + a)) (table_at c.args.tables.now) here (agree (c.args.base + a) (omega arith) (omega (arith, less))))
+    (λ a less. sym (upper-one c.args.dest c.args.arc.now.head (c.args.base + a) (f (c.args.base + a)) (table_at c.args.tables.now) here (agree (c.args.base + a) (omega arith) (omega (arith, less)))))
 
 pub returns-else-eq-clause-lower : goal.returns-else-eq-clause-lower
 returns-else-eq-clause-lower g c = λ f fed agree.
