@@ -59,7 +59,12 @@ fn ask_counted<M: Ledger, P: Ledger>(
 }
 
 /// The answer to an ask.
-fn ask(session: &mut Session, origin: u32, dest: u32, budget: u32) -> Result<Answer, AskFault> {
+pub(crate) fn ask(
+    session: &mut Session,
+    origin: u32,
+    dest: u32,
+    budget: u32,
+) -> Result<Answer, AskFault> {
     let ask = Ask {
         origin: NodeId(origin),
         dest: NodeId(dest),
