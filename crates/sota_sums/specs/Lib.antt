@@ -1,0 +1,3 @@
+pub mod Laws
+pub mod Rounded
+pub mod Rows
