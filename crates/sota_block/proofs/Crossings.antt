@@ -1,9 +1,9 @@
 -- Sums of masses times parts of values.
-use Rattle.std.proofs.Common.{◌≡◌, ℕ, zero, suc, ◌+◌, ◌-◌, ◌*◌, ◌<◌, ◌≤◌, min, List, length, get_or, take, drop, refl, ap, ◌∙◌, ⊎_elim, arith, add-one, length-take, length-drop, get_or-take, get_or-drop}
+use Rattle.std.proofs.Common.{◌≡◌, ℕ, zero, suc, ◌+◌, ◌-◌, ◌*◌, ◌/◌, ◌%◌, ◌<◌, ◌≤◌, min, List, length, get_or, take, drop, sum, refl, ap, ◌∙◌, ⊎_elim, arith, add-one, length-take, length-drop, get_or-take, get_or-drop}
 use Rattle.std.proofs.lemmas.Bool.{cases_eq}
 use Rattle.sota_block.specs.Product.{sum_below}
-use Rattle.sota_block.proofs.Sums.{sum_below-same, sum_below-zero, sum_below-add}
-use Rattle.sota_block.specs.Meeting.{crossed_by}
+use Rattle.sota_block.proofs.Sums.{sum_below-same, sum_below-zero, sum_below-add, sum_below-product-le, sum_below-list}
+use Rattle.sota_block.specs.Meeting.{crossed_by, low_half, high_half}
 
 -- the first n terms
 abbrev pub partial : (ℕ → ℕ) → List ℕ → List ℕ → ℕ → ℕ → ℕ
@@ -62,3 +62,21 @@ met_same part xs ys met at first end j none first_is end_is within zeros zeros' 
     (λ b before. zeros' (place - b) (omega arith)) (λ b from inside. zeros (place - b) (omega arith)) in
     let there : at + 8 - first + j ≡ place - first = omega arith in
     ap (λ (zs : List ℕ). crossed_by part zs ys (at + 8 - first + j)) is ∙ ap (λ (p : ℕ). crossed_by part (drop first (take end xs)) ys p) there ∙ whole
+
+-- a mass times a value is the mass times the value's halves
+pub halves : (m v : ℕ) → m * (v % 4294967296) + 4294967296 * (m * (v / 4294967296)) ≡ m * v
+halves m v =
+    let split : v % 4294967296 + 4294967296 * (v / 4294967296) ≡ v = omega arith in
+    let joined : m * (v % 4294967296 + 4294967296 * (v / 4294967296)) ≡ m * v = ap (λ (x : ℕ). m * x) split in
+    omega arith
+
+-- the sums of the values' halves make the sum
+pub crossed-halves : (masses values : List ℕ) (place n : ℕ) → partial low_half masses values place n + 4294967296 * partial high_half masses values place n ≡ partial (λ v. v) masses values place n
+crossed-halves masses values place zero = omega arith
+crossed-halves masses values place (suc n) = omega (arith, crossed-halves masses values place n, halves (get_or masses n 0) (get_or values (place - n) 0))
+
+-- and neither is large
+pub crossed-le : (part : ℕ → ℕ) (masses values : List ℕ) (place limit : ℕ) → ((a : ℕ) → part (get_or values a 0) ≤ limit) → crossed_by part masses values place ≤ sum masses * limit
+crossed-le part masses values place limit small =
+    let most = sum_below-product-le (length masses) limit (λ b. get_or masses b 0) (λ b. part (get_or values (place - b) 0)) (λ b below. small (place - b)) in
+    rw (sum_below-list masses) at most

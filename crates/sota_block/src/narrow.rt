@@ -4,6 +4,7 @@ ghost use Rattle.std.specs.Prelude.{IsTrue, slice_index};
 ghost use Rattle.sota_units.specs.Rounding.{SCALE_LIMIT};
 ghost use Rattle.sota_block.specs.Product.{coefficient};
 
+use crate::dense::join;
 use crate::eights::add_block;
 
 /// Whether each value fits 64 bits.
@@ -66,16 +67,5 @@ fn clear(row: &mut [u64])
 {
     for place in row.iter_mut() {
         *place = 0;
-    }
-}
-
-fn join(low: &[u64], high: &[u64], into: &mut [u128])
-    requires low_length { length low.now ≡ length into.old }
-    requires high_length { length high.now ≡ length into.old }
-    ensures { (k : ℕ) → k < length into.old → slice_index into.new k
-        ≡ slice_index low.now k + 4294967296 * slice_index high.now k }
-{
-    for k in 0..into.len() {
-        into[k] = u128::from(high[k]) * 4_294_967_296 + u128::from(low[k]);
     }
 }

@@ -1,14 +1,17 @@
 // Sums by squares.
-ghost use Rattle.std.specs.Prelude.{◌≡◌, ◌≤◌, ◌+◌, ◌^◌, [], length, false, IfOk};
+ghost use Rattle.std.specs.Prelude.{◌≡◌, ℕ, ◌≤◌, ◌<◌, ◌+◌, ◌-◌, ◌*◌, ◌^◌, [], length, slice_index};
+ghost use Rattle.std.specs.Prelude.{false, IfOk};
+ghost use Rattle.sota_units.specs.Rounding.{HEFT_LIMIT};
 ghost use Rattle.sota_hist.specs.Time.{is_closed};
 ghost use Rattle.sota_online.specs.Summer.{kernel_of, plain, fed_more};
 ghost use Rattle.sota_online.specs.Squares.{square_counts};
 
 use crate::Summer;
-use crate::halves::{crossed, joined};
+use crate::halves::{add_halves, joined};
 use crate::kernel::kernel_masses;
 use crate::levels::work_off;
 use crate::square::some_masses;
+use crate::sums::{plain_sum, plain_sums};
 use sota_hist::Histogram;
 use sota_units::{Grain, Heft, NoMemory, Steps};
 use std::alloc::Global;
@@ -121,9 +124,17 @@ impl Summer for BlockSummer {
 
     fn sum(&self, position: u32) -> Heft {
         let place = position as usize;
-        let few = place.min(self.smallest - 1).min(self.span);
-        let near = crossed(&self.masses[..few], &self.values[place - few..place]);
-        joined(self.low[place], self.high[place]).plus(near)
+        let near = self.span.min(self.smallest - 1);
+        let sum = plain_sum(&self.masses[..near], &self.values[..self.fed], place);
+        joined(self.low[place], self.high[place]).plus(sum)
+    }
+
+    fn sums(&self, from: u32, into: &mut [u128]) {
+        let from = from as usize;
+        let end = from + into.len();
+        let near = self.span.min(self.smallest - 1);
+        plain_sums(&self.masses[..near], &self.values[..self.fed], from, into);
+        add_halves(&self.low[from..end], &self.high[from..end], into);
     }
 }
 
