@@ -20,5 +20,5 @@ returns c = λ k below.
     let long : (xs ys : List ℕ) → xs ≡ ys → length xs ≡ length ys = λ xs ys e. ap (λ (zs : List ℕ). length zs) e in
     let masses : length c.narrow_masses.new.into ≡ 32 = long _ _ c.narrow_masses.ensures ∙ c.requires.length in
     let narrow : length c.narrow_values.new.into ≡ 32 = long _ _ c.narrow_values.ensures ∙ c.requires.same_length in
-    c.join.ensures k (omega arith) ∙ halves_coefficient c.args.kernel.now c.args.values.now c.narrow_masses.new.into c.narrow_values.new.into k _ _ _ _ (omega arith) c.narrow_masses.ensures c.narrow_values.ensures
+    c.join.ensures k (omega arith) ∙ halves_coefficient c.args.kernel.now c.args.values.now c.narrow_masses.new.into c.narrow_values.new.into k _ _ _ _ c.narrow_masses.ensures c.narrow_values.ensures
     (c.clear.ensures k (omega arith)) (c.clear-2.ensures k (omega arith)) (c.add_block.ensures.low k (omega arith)) (c.add_block.ensures.high k (omega arith))
