@@ -26,9 +26,7 @@ use std::sync::ledger::Ledger;
 /// or of the first 127 where many of these are not 0. No counter counts them.
 #[derive(Drop)]
 pub struct BlockSummer {
-    // The kernel's masses, and as many zeros.
     masses: Vec<u32>,
-    span: usize,
     // The level and the size of the smallest squares: two to the level.
     first: u32,
     smallest: usize,
@@ -51,33 +49,30 @@ impl Model for BlockSummer {
     ghost Value = { SummerState };
 
     ghost view = { λ s. record {
-      kernel = take s.span s.masses.items;
+      kernel = s.masses.items;
       values = take s.fed s.values.items;
       room = length s.values.items - s.fed;
     } };
 
-    ghost invariant = { λ s. IsWorked s.masses.items s.span s.first s.smallest
-        s.values.items s.fed s.low.items s.high.items s.thin.items s.wide.items };
+    ghost invariant = { λ s. IsWorked s.masses.items s.first s.smallest s.values.items
+        s.fed s.low.items s.high.items s.thin.items s.wide.items };
 }
 
 impl Summer for BlockSummer {
     ghost state = { λ s. s };
 
     fn make(alloc: Global, time: &Histogram, length: u32) -> Result<Self, NoMemory> {
-        let mut masses = kernel_masses(alloc, time, length)?;
+        let masses = kernel_masses(alloc, time, length)?;
         let span = masses.len();
-        let zeros = vec![in alloc; 0; span]?;
-        masses.extend_from_slice(&zeros)?;
         let (first, smallest) = smallest_square(&masses);
         let values = vec![in alloc; 0; length as usize]?;
-        let places = length as usize + 2 * span + 1;
+        let places = (length as usize / 8 + 1) * 8;
         let low = vec![in alloc; 0; places]?;
         let high = vec![in alloc; 0; places]?;
         let thin = vec![in alloc; 0; 2 * span + 16]?;
         let wide = vec![in alloc; 0; 6 * span]?;
         Ok(BlockSummer {
             masses,
-            span,
             first,
             smallest,
             values,
@@ -110,7 +105,6 @@ impl Summer for BlockSummer {
         self.fed += 1;
         work_off(
             &self.masses,
-            self.span,
             self.first,
             self.smallest,
             &self.values[..self.fed],
@@ -124,7 +118,7 @@ impl Summer for BlockSummer {
 
     fn sum(&self, position: u32) -> Heft {
         let place = position as usize;
-        let near = self.span.min(self.smallest - 1);
+        let near = (self.smallest - 1).min(self.masses.len());
         let sum = plain_sum(&self.masses[..near], &self.values[..self.fed], place);
         joined(self.low[place], self.high[place]).plus(sum)
     }
@@ -132,7 +126,7 @@ impl Summer for BlockSummer {
     fn sums(&self, from: u32, into: &mut [u128]) {
         let from = from as usize;
         let end = from + into.len();
-        let near = self.span.min(self.smallest - 1);
+        let near = (self.smallest - 1).min(self.masses.len());
         plain_sums(&self.masses[..near], &self.values[..self.fed], from, into);
         add_halves(&self.low[from..end], &self.high[from..end], into);
     }
@@ -142,7 +136,7 @@ impl Summer for BlockSummer {
 // the first masses is not 0, since few masses cost little, and else level 7.
 fn smallest_square(masses: &[u32]) -> (u32, usize)
     ensures size { result.1 ≡ 2 ^ result.0 }
-    ensures first_ge { 2 ≤ result.0 }
+    ensures first_ge { 3 ≤ result.0 }
     ensures first_le { result.0 ≤ 7 }
 {
     let near = masses.len().min(127);

@@ -1,4 +1,4 @@
-use Rattle.std.proofs.Common.{◌≡◌, ℕ, ◌+◌, ◌*◌, ◌<◌, ◌≤◌, length, slice_index, sum, arith, rules}
+use Rattle.std.proofs.Common.{◌+◌, ◌<◌, length, slice_index, arith, rules}
 use Rattle.sota_block.specs.Meeting.{low_half, high_half}
 use Rattle.sota_block.proofs.Eight.{get_or-eight}
 use Rattle.sota_block.proofs.Crossings.{crossed-le, crossed-halves}

@@ -1,4 +1,4 @@
-use Rattle.std.proofs.Common.{◌+◌, ◌-◌, length, refl, arith}
+use Rattle.std.proofs.Common.{refl, arith}
 use Rattle.sota_block.specs.Meeting.{low_half, high_half}
 use Rattle.sota_block.proofs.Crossings.{met_same}
 use Rattle.sota_block.proofs.eights.add_eight.Goals as goal

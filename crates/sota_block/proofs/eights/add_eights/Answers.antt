@@ -1,4 +1,4 @@
-use Rattle.std.proofs.Common.{◌≡◌, ℕ, ◌+◌, ◌*◌, ◌<◌, ◌≤◌, length, ⊎_elim, refl, arith}
+use Rattle.std.proofs.Common.{◌*◌, ◌<◌, ◌≤◌, ⊎_elim, refl, arith}
 use Rattle.std.proofs.lemmas.Bool.{cases_lt}
 use Rattle.sota_block.specs.Meeting.{low_half, high_half}
 use Rattle.sota_block.proofs.Crossings.{met_none}

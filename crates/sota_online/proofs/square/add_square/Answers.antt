@@ -5,9 +5,9 @@ use Rattle.sota_online.proofs.square.add_square.Goals as goal
 
 pub returns-then-some-eq0-clause-sums : goal.returns-then-some-eq0-clause-sums
 returns-then-some-eq0-clause-sums g c = λ k below.
-    omega (arith, meeting-none c.args.masses.now (λ a. slice_index c.args.values.now a) (length c.args.masses.now) k (c.some_masses-some.ensures.none c.if-some-eq0.true))
+    omega (arith, meeting-none c.args.masses.now (λ a. slice_index c.args.values.now a) (length c.args.values.now) k (c.some_masses-some.ensures.none c.if-some-eq0.true))
 
 pub add_plain-requires-clause-taken : goal.add_plain-requires-clause-taken
 add_plain-requires-clause-taken g c =
     let more : count_by (λ m. nat_lt 0 m) c.args.masses.now ≤ c.some_masses-some.result = omega (arith, c.some_masses-some.ensures.count) in
-    mul-le-mul_right (length c.args.masses.now) more
+    mul-le-mul_right (length c.args.values.now) more

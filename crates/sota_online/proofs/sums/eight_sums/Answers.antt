@@ -1,4 +1,4 @@
-use Rattle.std.proofs.Common.{◌+◌, ◌-◌, ◌∙◌, arith}
+use Rattle.std.proofs.Common.{◌∙◌, arith}
 use Rattle.sota_online.proofs.Parts.{crossed_is}
 use Rattle.sota_online.proofs.sums.eight_sums.Goals as goal
 

@@ -1,4 +1,4 @@
-use Rattle.std.proofs.Common.{◌≡◌, ℕ, ◌-◌, take, drop, List, arith, ◌∙◌, ap, refl}
+use Rattle.std.proofs.Common.{◌≡◌, ℕ, ◌-◌, take, drop, arith, ◌∙◌, ap, refl}
 use Rattle.sota_online.proofs.Parts.{plain_is}
 use Rattle.sota_online.proofs.sums.plain_sum.Goals as goal
 
