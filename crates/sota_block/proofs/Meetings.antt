@@ -1,13 +1,13 @@
 -- The products that meet at a place of two blocks.
-use Rattle.std.proofs.Common.{◌≡◌, ℕ, zero, suc, ◌+◌, ◌-◌, ◌*◌, ◌%◌, ◌^◌, ◌<◌, ◌≤◌, List, length, get_or, sum, refl, sym, ap, ◌∙◌, ⊎_elim, arith, add-one}
+use Rattle.std.proofs.Common.{◌≡◌, ℕ, zero, suc, ◌+◌, ◌-◌, ◌*◌, ◌%◌, ◌<◌, ◌≤◌, List, length, replicate, get_or, sum, refl, sym, ap, ◌∙◌, ⊎_elim, arith, add-one}
 use Rattle.std.proofs.lemmas.Bool.{cases_lt}
 use Rattle.std.proofs.Math.Nat.{mul-le-mul_left, mul_assoc, add-mul}
-use Rattle.std.proofs.lemmas.List.{get_or_past}
+use Rattle.std.proofs.lemmas.List.{get_or_past, get_or-replicate, length-replicate}
 use Rattle.sota_block.specs.Product.{sum_below, coefficient}
 use Rattle.sota_block.proofs.Sums.{sum_below-same, sum_below-zero, sum_below-add, sum_below-list}
 use Rattle.sota_block.proofs.Convolution.{coefficient-sum}
-use Rattle.sota_units.specs.Rounding.{ONE, SCALE_LIMIT}
-use Rattle.sota_block.specs.Meeting.{met, meeting, meeting_lows, meeting_highs, low_half, high_half, crossed_by}
+use Rattle.sota_units.specs.Rounding.{ONE}
+use Rattle.sota_block.specs.Meeting.{met, meeting, low_half, high_half, crossed_by}
 use Rattle.sota_block.proofs.Partners.{met-in, met-early, met-late, met-cases}
 use Rattle.sota_block.proofs.Crossings.{sum_below-le}
 
@@ -46,6 +46,10 @@ zeros_past padded n i long after from =
 
 pub zeros_after : (padded : List ℕ) (n i : ℕ) → length padded ≡ n + 16 → ((i : ℕ) → i < 8 → get_or padded (n + 8 + i) 0 ≡ 0) → length padded ≤ i + 8 → get_or padded i 0 ≡ 0
 zeros_after padded n i long after from = zeros_past padded n i long after (omega arith)
+
+pub zeros_there : (n i : ℕ) → ◌≡◌ {A = ℕ} (get_or (replicate n 0) i 0) 0
+zeros_there n i =
+    ⊎_elim (λ (inside : i < n). get_or-replicate {A = ℕ} n i 0 0 inside) (λ (past : n ≤ i). get_or_past {X = ℕ} (replicate n 0) i 0 (omega (arith, length-replicate {A = ℕ} n 0))) (cases_lt i n)
 
 pub padded_is : (part : ℕ → ℕ) (masses padded block : List ℕ) (k : ℕ) → part 0 ≡ 0 → length masses ≤ length block → length padded ≡ length block + 16
     → ((i : ℕ) → i < 8 → get_or padded i 0 ≡ 0) → ((a : ℕ) → a < length block → get_or padded (8 + a) 0 ≡ get_or block a 0) → ((i : ℕ) → i < 8 → get_or padded (length block + 8 + i) 0 ≡ 0)
@@ -166,23 +170,14 @@ meeting-le-sum masses size k = omega (arith, below (length masses), sum_below-li
         let one : m * met (λ a. 1) 0 size k n ≤ m = met-cases (λ v. m * v ≤ m) (λ a. 1) 0 size k n (omega arith) (λ a b. omega arith) in
         omega (arith, below n)
 
--- two rows of halves that started at 0 make the coefficients
-pub halves_coefficient : (kernel values masses narrow : List ℕ) (k low high low' high' : ℕ) → masses ≡ kernel → narrow ≡ values
-    → low ≡ 0 → high ≡ 0 → low' ≡ low + meeting_lows masses narrow k → high' ≡ high + meeting_highs masses narrow k
-    → low' + 4294967296 * high' ≡ coefficient kernel values k
-halves_coefficient kernel values masses narrow k low high low' high' is is' a b lows highs =
-    let u = halves-below masses (λ x. get_or narrow x 0) (length narrow) k (length masses) in
-    let v : coefficient masses narrow k ≡ coefficient kernel values k = ap (λ (xs : List ℕ). coefficient xs narrow k) is ∙ ap (λ (ys : List ℕ). coefficient kernel ys k) is' in
-    omega (arith, coefficient_meets masses narrow k) ∙ v
-
--- and each fits
-pub halves_fit : (masses narrow : List ℕ) (k : ℕ) → sum masses ≤ SCALE_LIMIT → ((a : ℕ) → get_or narrow a 0 < 18446744073709551616)
-    → (meeting_lows masses narrow k < 2 ^ 64) × (meeting_highs masses narrow k < 2 ^ 64)
-halves_fit masses narrow k few small =
-    let w = meeting-le-sum masses (length narrow) k in
-    (omega (arith, low-le masses (λ x. get_or narrow x 0) (length narrow) k), omega (arith, high-le masses (λ x. get_or narrow x 0) (length narrow) k small))
-
 -- no mass, nothing meets
 pub meeting-none : (masses : List ℕ) (f : ℕ → ℕ) (size k : ℕ) → ((b : ℕ) → b < length masses → get_or masses b 0 ≡ 0) → meeting masses f size k ≡ 0
 meeting-none masses f size k none =
     sum_below-zero (length masses) (λ b. get_or masses b 0 * met f 0 size k b) (λ b below. ap (λ (x : ℕ). x * met f 0 size k b) (none b below) ∙ omega arith)
+
+-- the coefficients of a product of narrow blocks
+pub narrow_is : (kernel masses values padded : List ℕ) (k : ℕ) → masses ≡ kernel → length kernel ≤ length values → length padded ≡ length values + 16
+    → ((i : ℕ) → i < 8 → get_or padded i 0 ≡ 0) → ((a : ℕ) → a < length values → get_or padded (8 + a) 0 ≡ get_or values a 0) → ((i : ℕ) → i < 8 → get_or padded (length values + 8 + i) 0 ≡ 0)
+    → crossed_by (λ v. v) masses padded (k + 8) ≡ coefficient kernel values k
+narrow_is kernel masses values padded k is within long before inside after =
+    ap (λ (xs : List ℕ). crossed_by (λ v. v) xs padded (k + 8)) is ∙ padded_is (λ v. v) kernel padded values k refl within long before inside after ∙ sym (coefficient_meets kernel values k)

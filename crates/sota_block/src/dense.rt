@@ -23,8 +23,8 @@ pub fn crossed_sums(masses: &[u32], values: &[u64], at: usize, into: &mut [u128]
     join(&low, &high, into);
 }
 
-/// The sums of two rows of halves.
-pub(crate) fn join(low: &[u64], high: &[u64], into: &mut [u128])
+// The sums of two rows of halves.
+fn join(low: &[u64], high: &[u64], into: &mut [u128])
     requires low_length { length low.now ≡ length into.old }
     requires high_length { length high.now ≡ length into.old }
     ensures { (k : ℕ) → k < length into.old → slice_index into.new k
@@ -37,6 +37,7 @@ pub(crate) fn join(low: &[u64], high: &[u64], into: &mut [u128])
 
 /// Adds to eight sums in a row, each in two halves, the products of a block of masses with the
 /// values from `at` backwards. Masses of 0 are passed over.
+#[inline(always)]
 pub(crate) fn add_crossed(
     masses: &[u32],
     values: &[u64],

@@ -1,10 +1,11 @@
 // Products of a block of masses and a block of values in lanes, eight places at a time.
 ghost use Rattle.std.specs.Prelude.{◌≡◌, ℕ, ◌+◌, ◌-◌, ◌*◌, ◌%◌, ◌^◌, ◌<◌, ◌≤◌, length};
-ghost use Rattle.std.specs.Prelude.{slice_index, min};
+ghost use Rattle.std.specs.Prelude.{slice_index, min, sum};
+ghost use Rattle.sota_units.specs.Rounding.{SCALE_LIMIT};
 ghost use Rattle.sota_block.specs.Meeting.{low_half, high_half, crossed_by};
 ghost use Rattle.sota_block.specs.Meeting.{meeting_lows, meeting_highs};
 
-use crate::dense::add_crossed;
+use crate::dense::{add_crossed, crossed_sums};
 
 /// Adds the products of a block of values and of as many masses, or fewer, to the sums of the first
 /// places where they land, each sum in two halves: `low` gets the products of the values' lower 32
@@ -113,9 +114,43 @@ fn add_eight(masses: &[u32], padded: &[u64], at: usize, low: &mut [u64], high: &
     ensures high { (j : ℕ) → j < 8 → slice_index high.new j
         ≡ slice_index high.old j + crossed_by high_half masses.now padded.now (at + j + 8) }
 {
+    let (met, place) = window(masses, padded, at);
+    add_crossed(met, padded, place, low, high);
+}
+
+/// Eight places of such a product: of the masses that meet a value there.
+#[inline(always)]
+pub(crate) fn eight_sums(masses: &[u32], padded: &[u64], at: usize, into: &mut [u128])
+    requires few { sum masses.now ≤ SCALE_LIMIT }
+    requires meets { at + 16 < length padded.now + length masses.now }
+    requires within { length masses.now + 16 ≤ length padded.now }
+    requires zeros_before { (i : ℕ) → i < 8 → slice_index padded.now i ≡ 0 }
+    requires zeros_after { (i : ℕ) → length padded.now ≤ i + 8 → slice_index padded.now i ≡ 0 }
+    requires room { length into.old ≡ 8 }
+    ensures { (j : ℕ) → j < 8 → slice_index into.new j
+        ≡ crossed_by (λ v. v) masses.now padded.now (at + j + 8) }
+{
+    let (met, place) = window(masses, padded, at);
+    crossed_sums(met, padded, place, into);
+}
+
+// The masses that meet a value at eight places, and where the first of them does.
+#[inline(always)]
+fn window<'a>(masses: &'a [u32], padded: &[u64], at: usize) -> (&'a [u32], usize)
+    requires meets { at + 16 < length padded.now + length masses.now }
+    requires within { length masses.now + 16 ≤ length padded.now }
+    requires zeros_before { (i : ℕ) → i < 8 → slice_index padded.now i ≡ 0 }
+    requires zeros_after { (i : ℕ) → length padded.now ≤ i + 8 → slice_index padded.now i ≡ 0 }
+    ensures before { length result.0.now ≤ result.1 + 1 }
+    ensures within { result.1 + 8 ≤ length padded.now }
+    ensures few { sum result.0.now ≤ sum masses.now }
+    ensures same { (part : ℕ → ℕ) (j : ℕ) → part 0 ≡ 0 → j < 8
+        → crossed_by part result.0.now padded.now (result.1 + j)
+        ≡ crossed_by part masses.now padded.now (at + j + 8) }
+{
     let first = at.saturating_sub(padded.len() - 16);
     let end = masses.len().min(at + 8);
     let (front, _) = masses.split_at(end);
     let (_, met) = front.split_at(first);
-    add_crossed(met, padded, at + 8 - first, low, high);
+    (met, at + 8 - first)
 }

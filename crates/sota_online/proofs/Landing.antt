@@ -15,6 +15,7 @@ use Rattle.sota_online.specs.Squares.{square, numbered, Holds}
 use Rattle.sota_online.specs.Products.{Landed, Fits, HasRoom, SumsGrow, GrowsByMost}
 use Rattle.sota_block.specs.Meeting.{meeting}
 use Rattle.sota_block.proofs.Partners.{met-in, met-early, met-late}
+use Rattle.sota_block.proofs.Stretch.{sub_at, stretch_new, stretch_before, stretch_after}
 use Rattle.sota_online.proofs.Squares.{mixed, Stands, Stands-block, Holds-next, meets-next, square-before, square-after, weight-le}
 
 -- the products of a list of masses are those of as many masses as there are and zeros
@@ -47,10 +48,6 @@ landing masses seg F f s k j some fits is same =
     (cases_lt j (s + i)))
     (cases_lt j i) in
     ap (λ (m : ℕ). m * met f 0 s j i) mass ∙ ap (λ (v : ℕ). numbered masses (s + i) * v) value)
-
--- a place of a stretch of a list
-pub sub_at : (at n k : ℕ) (xs : List ℕ) → k < n → get_or (take n (drop at xs)) k 0 ≡ get_or xs (at + k) 0
-sub_at at n k xs inside = get_or-take n (drop at xs) k 0 inside ∙ get_or-drop at xs k 0
 
 -- a level's step, over the lists that a call is lent
 module _ (masses values : List ℕ) (first k r R size blocks end : ℕ) (st : Stands first k r size blocks) (below : r < R) (known : k ≡ length values) (end_is : end ≡ min (length masses) (2 * size - 1)) where
@@ -129,34 +126,6 @@ few_part masses from n limit few = omega (arith, sum_by-take-le (λ (x : ℕ). x
 
 pub past_masses : (masses : List ℕ) (b : ℕ) → length masses < b → numbered masses b ≡ 0
 past_masses masses b past = get_or_past masses (b - 1) 0 (omega arith)
-
--- a stretch of a list whose places are changed
-module _ (at n : ℕ) (xs ys : List ℕ) (room : at + n ≤ length xs) (same : length ys ≡ length (take n (drop at xs))) where
-  abbrev put : List ℕ
-  put = take at xs ++ (ys ++ drop n (drop at xs))
-
-  long : length (take at xs) ≡ at
-  long = omega (arith, length-take at xs)
-
-  long' : length ys ≡ n
-  long' = omega (arith, length-take n (drop at xs), length-drop at xs)
-
-  pub stretch_new : (k : ℕ) → k < n → get_or put (at + k) 0 ≡ get_or ys k 0
-  stretch_new k inside =
-      let there : at + k - length (take at xs) ≡ k = omega (arith, long) in
-      get_or-append_right (take at xs) (ys ++ drop n (drop at xs)) (at + k) 0 (omega (arith, long)) ∙ ap (λ (i : ℕ). get_or (ys ++ drop n (drop at xs)) i 0) there ∙ get_or_append_left ys (drop n (drop at xs)) 0 k (omega (arith, long'))
-
-  pub stretch_before : (k : ℕ) → k < at → get_or put k 0 ≡ get_or xs k 0
-  stretch_before k early = get_or_append_left (take at xs) (ys ++ drop n (drop at xs)) 0 k (omega (arith, long)) ∙ get_or-take at xs k 0 early
-
-  pub stretch_after : (k : ℕ) → at + n ≤ k → get_or put k 0 ≡ get_or xs k 0
-  stretch_after k late =
-      let there : k - length (take at xs) ≡ k - at = omega (arith, long) in
-      let there' : k - at - length ys ≡ k - at - n = omega (arith, long') in
-      let back : at + (n + (k - at - n)) ≡ k = omega arith in
-      get_or-append_right (take at xs) (ys ++ drop n (drop at xs)) k 0 (omega (arith, long)) ∙ ap (λ (i : ℕ). get_or (ys ++ drop n (drop at xs)) i 0) there
-      ∙ get_or-append_right ys (drop n (drop at xs)) (k - at) 0 (omega (arith, long')) ∙ ap (λ (i : ℕ). get_or (drop n (drop at xs)) i 0) there'
-      ∙ get_or-drop n (drop at xs) (k - at - n) 0 ∙ get_or-drop at xs (n + (k - at - n)) 0 ∙ ap (λ (i : ℕ). get_or xs i 0) back
 
 -- a row's stretch has room where the row has
 pub stretch_fits : (masses : List ℕ) (size at n : ℕ) (row : List ℕ) → n ≤ 2 * size → at + n ≤ length row → Fits masses size at row → HasRoom masses size (take n (drop at row))
