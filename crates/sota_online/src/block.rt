@@ -103,17 +103,19 @@ impl Summer for BlockSummer {
     {
         self.values[self.fed] = value.get();
         self.fed += 1;
-        work_off(
-            &self.masses,
-            self.first,
-            self.smallest,
-            &self.values[..self.fed],
-            &mut self.low,
-            &mut self.high,
-            &mut self.thin,
-            &mut self.wide,
-            products,
-        );
+        if self.fed & (self.smallest - 1) == 0 {
+            work_off(
+                &self.masses,
+                self.first,
+                self.smallest,
+                &self.values[..self.fed],
+                &mut self.low,
+                &mut self.high,
+                &mut self.thin,
+                &mut self.wide,
+                products,
+            );
+        }
     }
 
     fn sum(&self, position: u32) -> Heft {

@@ -10,8 +10,8 @@ use crate::square::add_square;
 use sota_units::Steps;
 use std::sync::ledger::Ledger;
 
-/// Works off each square that the last value makes whole: at each size, a power of two from the
-/// smallest on, of which the number of values is a multiple.
+/// Works off each square that the last of some whole blocks of the smallest size makes whole: at
+/// each size, a power of two, of which the number of values is a multiple.
 pub(crate) fn work_off<M: Ledger>(
     masses: &[u32],
     first: u32,
@@ -26,6 +26,7 @@ pub(crate) fn work_off<M: Ledger>(
     requires some { 1 ≤ length values.now }
     requires few_values { length values.now ≤ 65536 }
     requires size { smallest ≡ 2 ^ first }
+    requires whole { length values.now % 2 ^ first ≡ 0 }
     requires first_ge { 3 ≤ first }
     requires first_le { first ≤ 7 }
     requires few { sum masses.now ≤ SCALE_LIMIT }
@@ -46,10 +47,6 @@ pub(crate) fn work_off<M: Ledger>(
     ensures count { products.new ≤ products.old + square_counts (length masses.now) (length values.now) }
 {
     let known = values.len();
-    let past = known & (smallest - 1);
-    if past != 0 {
-        return;
-    }
     let mut size = smallest;
     let mut blocks = known >> first;
     for level in first..17 {

@@ -1,5 +1,5 @@
 use Rattle.std.proofs.Common.{◌+◌, ◌-◌, List, ℕ, slice_index, length, arith, ◌∙◌, ap}
-use Rattle.sota_online.proofs.Landing.{sub_at}
+use Rattle.sota_block.proofs.Stretch.{sub_at}
 use Rattle.sota_online.proofs.Worked.{known_sum}
 use Rattle.sota_online.proofs.block.BlockSummerSummer.sums.Goals as goal
 
