@@ -48,7 +48,7 @@ pub record Holds (masses values reach : ℕ → ℕ) (count position low high : 
 
 -- What a summer by squares keeps: the kernel, the least level and size of its squares, values of
 -- which the first `fed` were fed, and at each position two numbers that hold the products of all
--- whole blocks of these levels
+-- whole blocks of these levels. Where the kernel is too short for a square it needs no rows
 pub record IsWorked (masses : List ℕ) (first smallest : ℕ) (values : List ℕ) (fed : ℕ)
     (low high thin wide : List ℕ) : Type 0 where
   pub size_is : smallest ≡ 2 ^ first
@@ -59,10 +59,10 @@ pub record IsWorked (masses : List ℕ) (first smallest : ℕ) (values : List �
   pub few_values : length values ≤ 65536
   pub few_masses : length masses ≤ length values
   pub low_eights : length low % 8 ≡ 0
-  pub low_room : length values < length low
+  pub low_room : smallest ≤ length masses → length values < length low
   pub high_room : length high ≡ length low
-  pub thin_room : 2 * length masses + 16 ≤ length thin
-  pub wide_room : 6 * length masses ≤ length wide
+  pub thin_room : smallest ≤ length masses → 2 * length masses + 16 ≤ length thin
+  pub wide_room : smallest ≤ length masses → 6 * length masses ≤ length wide
   pub small : (a : ℕ) → slice_index values a ≤ ONE
   pub held : (p : ℕ) → p < length low
       → Holds (numbered masses) (λ a. slice_index (take fed values) a) (λ r. reached first fed r)

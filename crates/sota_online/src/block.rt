@@ -1,6 +1,6 @@
 // Sums by squares.
 ghost use Rattle.std.specs.Prelude.{◌≡◌, ℕ, ◌≤◌, ◌<◌, ◌+◌, ◌-◌, ◌*◌, ◌^◌, [], length, slice_index};
-ghost use Rattle.std.specs.Prelude.{false, IfOk};
+ghost use Rattle.std.specs.Prelude.{false, true, IfOk, ◌%◌, ◌⊎◌};
 ghost use Rattle.sota_units.specs.Rounding.{HEFT_LIMIT};
 ghost use Rattle.sota_hist.specs.Time.{is_closed};
 ghost use Rattle.sota_online.specs.Summer.{kernel_of, plain, fed_more};
@@ -63,14 +63,13 @@ impl Summer for BlockSummer {
 
     fn make(alloc: Global, time: &Histogram, length: u32) -> Result<Self, NoMemory> {
         let masses = kernel_masses(alloc, time, length)?;
-        let span = masses.len();
         let (first, smallest) = smallest_square(&masses);
         let values = vec![in alloc; 0; length as usize]?;
-        let places = (length as usize / 8 + 1) * 8;
-        let low = vec![in alloc; 0; places]?;
-        let high = vec![in alloc; 0; places]?;
-        let thin = vec![in alloc; 0; 2 * span + 16]?;
-        let wide = vec![in alloc; 0; 6 * span]?;
+        let rooms = rooms_of(masses.len(), smallest, length);
+        let low = vec![in alloc; 0; rooms.sums]?;
+        let high = vec![in alloc; 0; rooms.sums]?;
+        let thin = vec![in alloc; 0; rooms.thin]?;
+        let wide = vec![in alloc; 0; rooms.wide]?;
         Ok(BlockSummer {
             masses,
             first,
@@ -103,7 +102,7 @@ impl Summer for BlockSummer {
     {
         self.values[self.fed] = value.get();
         self.fed += 1;
-        if self.fed & (self.smallest - 1) == 0 {
+        if ends_block(self.masses.len(), self.first, self.smallest, self.fed) {
             work_off(
                 &self.masses,
                 self.first,
@@ -120,6 +119,9 @@ impl Summer for BlockSummer {
 
     fn sum(&self, position: u32) -> Heft {
         let place = position as usize;
+        if self.masses.len() < self.smallest {
+            return plain_sum(&self.masses, &self.values[..self.fed], place);
+        }
         let near = (self.smallest - 1).min(self.masses.len());
         let sum = plain_sum(&self.masses[..near], &self.values[..self.fed], place);
         joined(self.low[place], self.high[place]).plus(sum)
@@ -127,11 +129,55 @@ impl Summer for BlockSummer {
 
     fn sums(&self, from: u32, into: &mut [u128]) {
         let from = from as usize;
+        if self.masses.len() < self.smallest {
+            return plain_sums(&self.masses, &self.values[..self.fed], from, into);
+        }
         let end = from + into.len();
         let near = (self.smallest - 1).min(self.masses.len());
         plain_sums(&self.masses[..near], &self.values[..self.fed], from, into);
         add_halves(&self.low[from..end], &self.high[from..end], into);
     }
+}
+
+// How many places the rows of a summer have.
+#[derive(Clone, Copy)]
+struct Rooms {
+    sums: usize,
+    thin: usize,
+    wide: usize,
+}
+
+// None where the kernel is too short for a square.
+fn rooms_of(span: usize, smallest: usize, length: u32) -> Rooms
+    requires { span ≤ length }
+    ensures sums { smallest ≤ span → length < result.sums }
+    ensures eights { result.sums % 8 ≡ 0 }
+    ensures thin { smallest ≤ span → 2 * span + 16 ≤ result.thin }
+    ensures wide { smallest ≤ span → 6 * span ≤ result.wide }
+{
+    if span < smallest {
+        return Rooms {
+            sums: 0,
+            thin: 0,
+            wide: 0,
+        };
+    }
+    Rooms {
+        sums: (length as usize / 8 + 1) * 8,
+        thin: 2 * span + 16,
+        wide: 6 * span,
+    }
+}
+
+// Whether so many values end a block, and the kernel is long enough for a square.
+#[inline(always)]
+fn ends_block(span: usize, first: u32, smallest: usize, fed: usize) -> bool
+    requires { smallest ≡ 2 ^ first }
+    ensures long { result ≡ true → smallest ≤ span }
+    ensures whole { result ≡ true → fed % 2 ^ first ≡ 0 }
+    ensures idle { result ≡ false → (span < smallest) ⊎ (fed % 2 ^ first ≡ 0 → ⊥) }
+{
+    smallest <= span && fed & (smallest - 1) == 0
 }
 
 // The level and the size of the smallest squares of a kernel: level 5 where less than a quarter of
