@@ -53,7 +53,7 @@ pub record IsWorked (masses : List ℕ) (first smallest : ℕ) (values : List �
     (low high thin wide : List ℕ) : Type 0 where
   pub size_is : smallest ≡ 2 ^ first
   pub first_ge : 3 ≤ first
-  pub first_le : first ≤ 7
+  pub first_le : first ≤ 9
   pub few : sum masses ≤ SCALE_LIMIT
   pub fed_le : fed ≤ length values
   pub few_values : length values ≤ 65536

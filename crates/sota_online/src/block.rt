@@ -22,8 +22,9 @@ use std::sync::ledger::Ledger;
 /// and a square is made of the masses from a power of two up to the next and of as many values, a
 /// whole block of them. It is worked off when its block is complete, and it lands at positions
 /// after the block, so what squares make of a sum is there when it is asked for. The smallest
-/// squares would cost more than they save: `sum` adds the products of the first 31 masses itself,
-/// or of the first 127 where many of these are not 0. No counter counts them.
+/// squares would cost more than they save: `sum` and `sums` add the products of the first 31 masses
+/// themselves, or of the first 127 where many of these are not 0. A short kernel has no squares.
+/// No counter counts what is added so.
 #[derive(Drop)]
 pub struct BlockSummer {
     masses: Vec<u32>,
@@ -122,8 +123,8 @@ impl Summer for BlockSummer {
         if self.masses.len() < self.smallest {
             return plain_sum(&self.masses, &self.values[..self.fed], place);
         }
-        let near = (self.smallest - 1).min(self.masses.len());
-        let sum = plain_sum(&self.masses[..near], &self.values[..self.fed], place);
+        let near = &self.masses[..self.smallest - 1];
+        let sum = plain_sum(near, &self.values[..self.fed], place);
         joined(self.low[place], self.high[place]).plus(sum)
     }
 
@@ -133,8 +134,8 @@ impl Summer for BlockSummer {
             return plain_sums(&self.masses, &self.values[..self.fed], from, into);
         }
         let end = from + into.len();
-        let near = (self.smallest - 1).min(self.masses.len());
-        plain_sums(&self.masses[..near], &self.values[..self.fed], from, into);
+        let near = &self.masses[..self.smallest - 1];
+        plain_sums(near, &self.values[..self.fed], from, into);
         add_halves(&self.low[from..end], &self.high[from..end], into);
     }
 }
@@ -181,16 +182,20 @@ fn ends_block(span: usize, first: u32, smallest: usize, fed: usize) -> bool
 }
 
 // The level and the size of the smallest squares of a kernel: level 5 where less than a quarter of
-// the first masses is not 0, since few masses cost little, and else level 7.
+// the first masses is not 0, since few masses cost little, and else level 7. A kernel that squares
+// would not make faster, or not by much, is shorter than its smallest square.
 fn smallest_square(masses: &[u32]) -> (u32, usize)
     ensures size { result.1 ≡ 2 ^ result.0 }
     ensures first_ge { 3 ≤ result.0 }
-    ensures first_le { result.0 ≤ 7 }
+    ensures first_le { result.0 ≤ 9 }
 {
     let near = masses.len().min(127);
-    if 4 * some_masses(&masses[..near]) < near {
+    let few = 4 * some_masses(&masses[..near]) < near;
+    if few && masses.len() >= 64 {
         (5, 32)
-    } else {
+    } else if masses.len() >= 300 {
         (7, 128)
+    } else {
+        (9, 512)
     }
 }

@@ -28,7 +28,7 @@ pub(crate) fn work_off<M: Ledger>(
     requires size { smallest ≡ 2 ^ first }
     requires whole { length values.now % 2 ^ first ≡ 0 }
     requires first_ge { 3 ≤ first }
-    requires first_le { first ≤ 7 }
+    requires first_le { first ≤ 9 }
     requires few { sum masses.now ≤ SCALE_LIMIT }
     requires low_eights { length low.old % 8 ≡ 0 }
     requires low_room { length values.now ≤ length low.old }
