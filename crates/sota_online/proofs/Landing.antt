@@ -10,7 +10,7 @@ use Rattle.sota_block.specs.Product.{sum_below}
 use Rattle.sota_block.proofs.Sums.{sum_below-same, sum_below-zero, sum_below-add}
 use Rattle.sota_block.specs.Meeting.{met}
 use Rattle.sota_online.specs.Squares.{square, numbered, Holds}
-use Rattle.sota_online.specs.Products.{Landed, Fits, HasRoom, SumsGrow, GrowsByMost}
+use Rattle.sota_online.specs.Products.{Landed, Added, Fits, HasRoom}
 use Rattle.sota_block.specs.Meeting.{meeting}
 use Rattle.sota_block.proofs.Partners.{met-in, met-early, met-late}
 use Rattle.sota_block.proofs.Stretch.{sub_at, stretch_new, stretch_before, stretch_after}
@@ -134,10 +134,9 @@ stretch_fits masses size at n row few room fits k inside =
 -- what is added to the stretches of two rows has landed on the rows
 pub landed_is : (masses values low high ys zs : List ℕ) (at end : ℕ) → end ≡ min (length low) (at + 2 * length values) → at ≤ length low → length high ≡ length low
     → length ys ≡ length (take (end - at) (drop at low)) → length zs ≡ length (take (end - at) (drop at high))
-    → SumsGrow masses values (take (end - at) (drop at low)) (take (end - at) (drop at high)) ys zs
-    → GrowsByMost masses (length values) (take (end - at) (drop at low)) ys → GrowsByMost masses (length values) (take (end - at) (drop at high)) zs
+    → Added masses values (take (end - at) (drop at low)) (take (end - at) (drop at high)) ys zs
     → Landed masses values at low high (take at low ++ (ys ++ drop (end - at) (drop at low))) (take at high ++ (zs ++ drop (end - at) (drop at high)))
-landed_is masses values low high ys zs at end is from same long long' sums lows highs =
+landed_is masses values low high ys zs at end is from same long long' added =
     let n : ℕ = end - at in
     let room : at + n ≤ length low = omega arith in
     let room' : at + n ≤ length high = omega arith in
@@ -145,9 +144,9 @@ landed_is masses values low high ys zs at end is from same long long' sums lows 
     let high_long : length (take n (drop at high)) ≡ n = omega (arith, length-take n (drop at high), length-drop at high) in
     record {
       sums = λ k below inside.
-          omega (arith, stretch_new at n low ys room long k (omega arith), stretch_new at n high zs room' long' k (omega arith), sub_at at n k low (omega arith), sub_at at n k high (omega arith), sums k (omega arith));
-      low_small = λ k below inside. omega (arith, stretch_new at n low ys room long k (omega arith), sub_at at n k low (omega arith), lows k (omega arith));
-      high_small = λ k below inside. omega (arith, stretch_new at n high zs room' long' k (omega arith), sub_at at n k high (omega arith), highs k (omega arith));
+          omega (arith, stretch_new at n low ys room long k (omega arith), stretch_new at n high zs room' long' k (omega arith), sub_at at n k low (omega arith), sub_at at n k high (omega arith), added.sums k (omega arith));
+      low_small = λ k below inside. omega (arith, stretch_new at n low ys room long k (omega arith), sub_at at n k low (omega arith), added.low_small k (omega arith));
+      high_small = λ k below inside. omega (arith, stretch_new at n high zs room' long' k (omega arith), sub_at at n k high (omega arith), added.high_small k (omega arith));
       low_before = λ k early. stretch_before at n low ys room long k early;
       high_before = λ k early. stretch_before at n high zs room' long' k early;
       low_after = λ k late. stretch_after at n low ys room long k (omega arith);

@@ -1,9 +1,8 @@
 // A square by a folded product.
-ghost use Rattle.std.specs.Prelude.{◌≡◌, ℕ, ◌+◌, ◌*◌, ◌^◌, ◌<◌, ◌≤◌, length, slice_index, sum};
-ghost use Rattle.sota_units.specs.Rounding.{ONE, SCALE_LIMIT};
+ghost use Rattle.std.specs.Prelude.{◌≡◌, ℕ, ◌+◌, ◌*◌, ◌^◌, ◌<◌, ◌≤◌, length, slice_index};
 ghost use Rattle.sota_block.specs.Meeting.{low_half, high_half};
-ghost use Rattle.sota_block.specs.Product.{IsBlockLength, fold_count};
-ghost use Rattle.sota_online.specs.Products.{HasRoom, SumsGrow, GrowsByMost};
+ghost use Rattle.sota_block.specs.Product.{fold_count};
+ghost use Rattle.sota_online.specs.Products.{IsSquare, Added};
 
 use sota_block::product_fold;
 use sota_units::Steps;
@@ -20,19 +19,10 @@ pub(crate) fn add_folded<M: Ledger>(
     wide: &mut [u128],
     products: &mut Steps<M>,
 )
-    requires block { IsBlockLength (length values.now) }
-    requires within { length masses.now ≤ length values.now }
-    requires few { sum masses.now ≤ SCALE_LIMIT }
-    requires small { (a : ℕ) → slice_index values.now a ≤ ONE }
-    requires low_room { length low.old ≤ 2 * length values.now }
-    requires high_room { length high.old ≡ length low.old }
+    requires square { IsSquare masses.now values.now low.old high.old }
     requires thin_room { 2 * length values.now ≤ length thin.old }
     requires wide_room { 6 * length values.now ≤ length wide.old }
-    requires low_fits { HasRoom masses.now (length values.now) low.old }
-    requires high_fits { HasRoom masses.now (length values.now) high.old }
-    ensures sums { SumsGrow masses.now values.now low.old high.old low.new high.new }
-    ensures low_small { GrowsByMost masses.now (length values.now) low.old low.new }
-    ensures high_small { GrowsByMost masses.now (length values.now) high.old high.new }
+    ensures added { Added masses.now values.now low.old high.old low.new high.new }
     ensures count { (r : ℕ) → length values.now ≡ 2 ^ r
         → products.new ≡ products.old + fold_count r }
 {

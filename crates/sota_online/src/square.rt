@@ -1,9 +1,8 @@
 // The products of a block of masses and a block of values.
 ghost use Rattle.std.specs.Prelude.{◌≡◌, ℕ, ◌+◌, ◌*◌, ◌%◌, ◌^◌, ◌<◌, ◌≤◌, length, slice_index};
-ghost use Rattle.std.specs.Prelude.{count_by, nat_lt, sum};
-ghost use Rattle.sota_units.specs.Rounding.{ONE, SCALE_LIMIT};
-ghost use Rattle.sota_block.specs.Product.{IsBlockLength, fold_count};
-ghost use Rattle.sota_online.specs.Products.{HasRoom, SumsGrow, GrowsByMost};
+ghost use Rattle.std.specs.Prelude.{count_by, nat_lt};
+ghost use Rattle.sota_block.specs.Product.{fold_count};
+ghost use Rattle.sota_online.specs.Products.{IsSquare, Added};
 
 use crate::folded::add_folded;
 use sota_block::{add_block, fold_products};
@@ -23,20 +22,11 @@ pub(crate) fn add_square<M: Ledger>(
     wide: &mut [u128],
     products: &mut Steps<M>,
 )
-    requires block { IsBlockLength (length values.now) }
-    requires within { length masses.now ≤ length values.now }
+    requires square { IsSquare masses.now values.now low.old high.old }
     requires eights { length low.old % 8 ≡ 0 }
-    requires low_room { length low.old ≤ 2 * length values.now }
-    requires high_room { length high.old ≡ length low.old }
-    requires low_fits { HasRoom masses.now (length values.now) low.old }
-    requires high_fits { HasRoom masses.now (length values.now) high.old }
-    requires few { sum masses.now ≤ SCALE_LIMIT }
-    requires small { (a : ℕ) → slice_index values.now a ≤ ONE }
     requires thin_room { 2 * length values.now + 16 ≤ length thin.old }
     requires wide_room { 6 * length values.now ≤ length wide.old }
-    ensures sums { SumsGrow masses.now values.now low.old high.old low.new high.new }
-    ensures low_small { GrowsByMost masses.now (length values.now) low.old low.new }
-    ensures high_small { GrowsByMost masses.now (length values.now) high.old high.new }
+    ensures added { Added masses.now values.now low.old high.old low.new high.new }
     ensures count { (r : ℕ) → length values.now ≡ 2 ^ r
         → products.new ≤ products.old + fold_count r }
 {
@@ -79,18 +69,11 @@ fn add_plain<M: Ledger>(
     taken: usize,
     products: &mut Steps<M>,
 )
-    requires block { IsBlockLength (length values.now) }
-    requires within { length masses.now ≤ length values.now }
+    requires square { IsSquare masses.now values.now low.old high.old }
     requires eights { length low.old % 8 ≡ 0 }
-    requires low_room { length low.old ≤ 2 * length values.now }
-    requires high_room { length high.old ≡ length low.old }
-    requires low_fits { HasRoom masses.now (length values.now) low.old }
-    requires high_fits { HasRoom masses.now (length values.now) high.old }
     requires padded_room { length values.now + 16 ≤ length padded.old }
     requires taken { count_by (λ m. nat_lt 0 m) masses.now * length values.now ≤ taken }
-    ensures sums { SumsGrow masses.now values.now low.old high.old low.new high.new }
-    ensures low_small { GrowsByMost masses.now (length values.now) low.old low.new }
-    ensures high_small { GrowsByMost masses.now (length values.now) high.old high.new }
+    ensures added { Added masses.now values.now low.old high.old low.new high.new }
     ensures count { products.new ≡ products.old + taken }
 {
     add_block(masses, values, padded, low, high);
