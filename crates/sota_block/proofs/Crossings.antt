@@ -1,9 +1,9 @@
 -- Sums of masses times parts of values.
-use Rattle.std.proofs.Common.{◌≡◌, ℕ, zero, suc, ◌+◌, ◌-◌, ◌*◌, ◌<◌, ◌≤◌, min, List, length, get_or, take, drop, refl, ap, ◌∙◌, ⊎_elim, arith, add-one, length-take, length-drop, get_or-take, get_or-drop}
+use Rattle.std.proofs.Common.{◌≡◌, ℕ, zero, suc, ◌+◌, ◌-◌, ◌*◌, ◌/◌, ◌%◌, ◌<◌, ◌≤◌, min, List, length, get_or, take, drop, sum, refl, ap, ◌∙◌, ⊎_elim, arith, add-one, length-take, length-drop, get_or-take, get_or-drop}
 use Rattle.std.proofs.lemmas.Bool.{cases_eq}
 use Rattle.sota_block.specs.Product.{sum_below}
-use Rattle.sota_block.proofs.Sums.{sum_below-same, sum_below-zero, sum_below-add}
-use Rattle.sota_block.specs.Meeting.{crossed_by}
+use Rattle.sota_block.proofs.Sums.{sum_below-same, sum_below-zero, sum_below-add, sum_below-product-le, sum_below-list}
+use Rattle.sota_block.specs.Meeting.{crossed_by, low_half, high_half}
 
 -- the first n terms
 abbrev pub partial : (ℕ → ℕ) → List ℕ → List ℕ → ℕ → ℕ → ℕ
@@ -53,12 +53,36 @@ window part xs ys first end place none low high before after =
     omega arith
 
 -- eight places meet only some of the masses
-pub met_same : (part : ℕ → ℕ) (xs ys met : List ℕ) (at first end j : ℕ) → part 0 ≡ 0 → first ≡ at - length xs → end ≡ min (at + 8) (length xs) → at + 8 ≤ 2 * length xs
-    → ((i : ℕ) → i < 8 → get_or ys i 0 ≡ 0) → ((i : ℕ) → length xs + 8 ≤ i → get_or ys i 0 ≡ 0) → met ≡ drop first (take end xs) → j < 8
+pub met_same : (part : ℕ → ℕ) (xs ys front met : List ℕ) (at first end j : ℕ) → part 0 ≡ 0 → length xs + 16 ≤ length ys → first ≡ at - (length ys - 16) → end ≡ min (length xs) (at + 8) → at + 16 < length ys + length xs
+    → ((i : ℕ) → i < 8 → get_or ys i 0 ≡ 0) → ((i : ℕ) → length ys ≤ i + 8 → get_or ys i 0 ≡ 0) → front ≡ take end xs → met ≡ drop first front → j < 8
     → crossed_by part met ys (at + 8 - first + j) ≡ crossed_by part xs ys (at + j + 8)
-met_same part xs ys met at first end j none first_is end_is within zeros zeros' is below =
+met_same part xs ys front met at first end j none long first_is end_is meets zeros zeros' front_is met_is below =
     let place : ℕ = at + j + 8 in
+    let is : met ≡ drop first (take end xs) = met_is ∙ ap (λ (zs : List ℕ). drop first zs) front_is in
     let whole : crossed_by part (drop first (take end xs)) ys (place - first) ≡ crossed_by part xs ys place = window part xs ys first end place none (omega arith) (omega arith)
     (λ b before. zeros' (place - b) (omega arith)) (λ b from inside. zeros (place - b) (omega arith)) in
     let there : at + 8 - first + j ≡ place - first = omega arith in
     ap (λ (zs : List ℕ). crossed_by part zs ys (at + 8 - first + j)) is ∙ ap (λ (p : ℕ). crossed_by part (drop first (take end xs)) ys p) there ∙ whole
+
+-- places past the last meet none
+pub met_none : (part : ℕ → ℕ) (xs ys : List ℕ) (k : ℕ) → part 0 ≡ 0 → ((i : ℕ) → length ys ≤ i + 8 → get_or ys i 0 ≡ 0) → length ys + length xs ≤ k + 16 → crossed_by part xs ys (k + 8) ≡ 0
+met_none part xs ys k none zeros past =
+    sum_below-zero (length xs) (λ b. get_or xs b 0 * part (get_or ys (k + 8 - b) 0)) (λ b below. nothing (get_or xs b 0) (get_or ys (k + 8 - b) 0) 0 part none (zeros (k + 8 - b) (omega arith)))
+
+-- a mass times a value is the mass times the value's halves
+pub halves : (m v : ℕ) → m * (v % 4294967296) + 4294967296 * (m * (v / 4294967296)) ≡ m * v
+halves m v =
+    let split : v % 4294967296 + 4294967296 * (v / 4294967296) ≡ v = omega arith in
+    let joined : m * (v % 4294967296 + 4294967296 * (v / 4294967296)) ≡ m * v = ap (λ (x : ℕ). m * x) split in
+    omega arith
+
+-- the sums of the values' halves make the sum
+pub crossed-halves : (masses values : List ℕ) (place n : ℕ) → partial low_half masses values place n + 4294967296 * partial high_half masses values place n ≡ partial (λ v. v) masses values place n
+crossed-halves masses values place zero = omega arith
+crossed-halves masses values place (suc n) = omega (arith, crossed-halves masses values place n, halves (get_or masses n 0) (get_or values (place - n) 0))
+
+-- and neither is large
+pub crossed-le : (part : ℕ → ℕ) (masses values : List ℕ) (place limit : ℕ) → ((a : ℕ) → part (get_or values a 0) ≤ limit) → crossed_by part masses values place ≤ sum masses * limit
+crossed-le part masses values place limit small =
+    let most = sum_below-product-le (length masses) limit (λ b. get_or masses b 0) (λ b. part (get_or values (place - b) 0)) (λ b below. small (place - b)) in
+    rw (sum_below-list masses) at most

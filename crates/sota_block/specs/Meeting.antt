@@ -23,14 +23,14 @@ abbrev pub meeting : List ℕ → (ℕ → ℕ) → ℕ → ℕ → ℕ
 meeting masses values size place =
     sum_below (length masses) (λ b. slice_index masses b * met values 0 size place b)
 
--- those of a block of masses and the lower halves of as many values, and the upper ones
+-- those of masses and the lower halves of a block of values, and the upper ones
 abbrev pub meeting_lows : List ℕ → List ℕ → ℕ → ℕ
 meeting_lows masses values place =
-    meeting masses (λ a. low_half (slice_index values a)) (length masses) place
+    meeting masses (λ a. low_half (slice_index values a)) (length values) place
 
 abbrev pub meeting_highs : List ℕ → List ℕ → ℕ → ℕ
 meeting_highs masses values place =
-    meeting masses (λ a. high_half (slice_index values a)) (length masses) place
+    meeting masses (λ a. high_half (slice_index values a)) (length values) place
 
 -- the sum of masses[b] times a part of values[place - b]
 abbrev pub crossed_by : (ℕ → ℕ) → List ℕ → List ℕ → ℕ → ℕ
