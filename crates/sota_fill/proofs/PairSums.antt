@@ -1,5 +1,5 @@
 -- Sums over the pairs of a travel time, pair by pair.
-use Rattle.std.proofs.Common.{ℕ, zero, suc, ◌≡◌, ◌+◌, ◌-◌, ◌*◌, ◌<◌, ◌≤◌, cond, nat_eq, ◌==◌, Bool, true, false, List, [], ◌∷◌, refl, ◌∙◌, ap, arith, ⊎_elim}
+use Rattle.std.proofs.Common.{ℕ, suc, ◌≡◌, ◌+◌, ◌-◌, ◌*◌, ◌<◌, ◌≤◌, cond, nat_eq, ◌==◌, true, false, List, [], ◌∷◌, refl, ◌∙◌, ap, arith, ⊎_elim}
 use Rattle.std.proofs.Math.Nat.{mul-le-mul_left}
 use Rattle.std.proofs.lemmas.Bool.{le-leb, lt-leb, cases_lt, cases_Bool}
 use Rattle.std.specs.List.{filter}

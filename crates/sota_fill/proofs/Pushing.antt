@@ -1,6 +1,5 @@
 -- Entries by plain sums over the tables as they were before an extent are the grid's.
-use Rattle.std.proofs.Common.{ℕ, ◌≡◌, ◌≢◌, ◌+◌, ◌-◌, ◌*◌, ◌<◌, ◌≤◌, ◌==◌, max, nat_lt, List, [], ◌∷◌, ◌++◌, length, get_or, Option, None, Some, false, refl, sym, ◌∙◌, ap, subst, arith, ⊎_elim, inl}
-use Rattle.std.specs.List.{All}
+use Rattle.std.proofs.Common.{ℕ, ◌≡◌, ◌≢◌, ◌+◌, ◌-◌, ◌*◌, ◌<◌, ◌≤◌, max, List, ◌++◌, length, get_or, Option, None, Some, false, refl, sym, ◌∙◌, ap, subst, arith, ⊎_elim, inl}
 use Rattle.std.proofs.Math.ListN.{get_or-eq_default}
 use Rattle.std.proofs.Math.Nat.{mul-le-mul_right}
 use Rattle.std.proofs.lemmas.List.{length-append, get_or_append_left, get_or-append_right}
@@ -8,14 +7,14 @@ use Rattle.std.proofs.lemmas.Bool.{cases_lt, cases_eq, eq-eqb, ne_eqb, lt-ltb, l
 use Rattle.sota_units.specs.Rounding.{ONE, floor_by, ceiling_by}
 use Rattle.sota_hist.specs.Time.{total, is_closed, least_tick}
 use Rattle.sota_network.specs.Network.{Net, IsNet, IsNode, IsArc, arc_at}
-use Rattle.sota_network.specs.Grid.{lo, hi, choice, plain_sum, best_sum, choice_of, weighed}
+use Rattle.sota_network.specs.Grid.{lo, hi, choice, plain_sum, best_sum, choice_of}
 use Rattle.sota_network.specs.declared.network.Arc.{Arc}
 use Rattle.sota_kept.specs.Ticks.{END_LIMIT, least_to}
-use Rattle.sota_kept.specs.NodeTables.{NodeTable, Entry, IsNodeTable, IsReadyAt, AreReady, IsExtent, known_end, lower_of, upper_of, choice_at, lower_in, upper_in, entry_from}
+use Rattle.sota_kept.specs.NodeTables.{NodeTable, IsReadyAt, AreReady, IsExtent, known_end, lower_of, upper_of, lower_in, upper_in, entry_from}
 use Rattle.sota_kept.specs.Asks.{IsGridEntry}
 use Rattle.sota_tables.specs.Views.{TablesView, OnlyAt, table_at, room_of, longer_table}
 use Rattle.sota_fill.specs.Laws.{Fillable}
-use Rattle.sota_fill.specs.Fills.{IsLonger, IsUnfilled, ReadsAs, ReadsGrid}
+use Rattle.sota_fill.specs.Fills.{IsLonger, IsUnfilled, ReadsGrid}
 use Rattle.sota_fill.proofs.Among.{best-bound}
 use Rattle.sota_fill.proofs.PairSums.{weighed-bound}
 
@@ -130,46 +129,46 @@ ready-longer net dest i s ls us cs is found some room =
     let early : (t : ℕ) → t < s.base → (lo net dest i t ≡ 0) × (hi net dest i t ≡ 0) = is.settled.empty in
     record {
       settled = record {
-          kept = record {
-              shape = record {
-                  front = room;
-                  base = shape.base;
-                  lower = length-append s.lower ls ∙ omega (arith, shape.lower);
-                  upper = length-append s.upper us ∙ omega (arith, shape.upper, found.upper);
-                  choices = length-append s.choices cs ∙ omega (arith, shape.choices, found.choices);
-                };
-              lower = λ t up less.
-                  let row = appended s.lower ls 0 s.front s.base (known_end s) t shape.lower refl up in
-                  rw (le-ltb t s.base up)
-                  (⊎_elim
-                  (λ (old : t < s.front). row.0 old ∙ (rw (le-ltb t s.base up) at (kept.lower t up old)))
-                  (λ (late : s.front ≤ t).
-                  let at = index t late up less in
-                  row.1 late ∙ (found.entry (t - known_end s) at.0).lower ∙ ap (lo net dest i) at.1)
-                  (cases_lt t s.front));
-              upper = λ t up less.
-                  let row = appended s.upper us 0 s.front s.base (known_end s) t shape.upper refl up in
-                  rw (le-ltb t s.base up)
-                  (⊎_elim
-                  (λ (old : t < s.front). row.0 old ∙ (rw (le-ltb t s.base up) at (kept.upper t up old)))
-                  (λ (late : s.front ≤ t).
-                  let at = index t late up less in
-                  row.1 late ∙ (found.entry (t - known_end s) at.0).upper ∙ ap (hi net dest i) at.1)
-                  (cases_lt t s.front));
-              choice = λ t up less.
-                  let row = appended s.choices cs None s.front s.base (known_end s) t shape.choices refl up in
-                  rw (le-ltb t s.base up)
-                  (⊎_elim
-                  (λ (old : t < s.front). row.0 old ∙ (rw (le-ltb t s.base up) at (kept.choice t up old)))
-                  (λ (late : s.front ≤ t).
-                  let at = index t late up less in
-                  row.1 late ∙ (found.entry (t - known_end s) at.0).choice ∙ ap (choice net dest i) at.1)
-                  (cases_lt t s.front));
-              below = λ t less. early t (omega arith);
-              least = ⊎_elim (λ (low : s.base ≤ least_to net dest i). inl low) (λ (low : s.front ≤ least_to net dest i). inl (let same : s.base ≡ least_to net dest i = is.based low in omega arith)) kept.least;
-            };
-          empty = early;
+        kept = record {
+          shape = record {
+            front = room;
+            base = shape.base;
+            lower = length-append s.lower ls ∙ omega (arith, shape.lower);
+            upper = length-append s.upper us ∙ omega (arith, shape.upper, found.upper);
+            choices = length-append s.choices cs ∙ omega (arith, shape.choices, found.choices);
+          };
+          lower = λ t up less.
+              let row = appended s.lower ls 0 s.front s.base (known_end s) t shape.lower refl up in
+              rw (le-ltb t s.base up)
+              (⊎_elim
+              (λ (old : t < s.front). row.0 old ∙ (rw (le-ltb t s.base up) at (kept.lower t up old)))
+              (λ (late : s.front ≤ t).
+              let at = index t late up less in
+              row.1 late ∙ (found.entry (t - known_end s) at.0).lower ∙ ap (lo net dest i) at.1)
+              (cases_lt t s.front));
+          upper = λ t up less.
+              let row = appended s.upper us 0 s.front s.base (known_end s) t shape.upper refl up in
+              rw (le-ltb t s.base up)
+              (⊎_elim
+              (λ (old : t < s.front). row.0 old ∙ (rw (le-ltb t s.base up) at (kept.upper t up old)))
+              (λ (late : s.front ≤ t).
+              let at = index t late up less in
+              row.1 late ∙ (found.entry (t - known_end s) at.0).upper ∙ ap (hi net dest i) at.1)
+              (cases_lt t s.front));
+          choice = λ t up less.
+              let row = appended s.choices cs None s.front s.base (known_end s) t shape.choices refl up in
+              rw (le-ltb t s.base up)
+              (⊎_elim
+              (λ (old : t < s.front). row.0 old ∙ (rw (le-ltb t s.base up) at (kept.choice t up old)))
+              (λ (late : s.front ≤ t).
+              let at = index t late up less in
+              row.1 late ∙ (found.entry (t - known_end s) at.0).choice ∙ ap (choice net dest i) at.1)
+              (cases_lt t s.front));
+          below = λ t less. early t (omega arith);
+          least = ⊎_elim (λ (low : s.base ≤ least_to net dest i). inl low) (λ (low : s.front ≤ least_to net dest i). inl (let same : s.base ≡ least_to net dest i = is.based low in omega arith)) kept.least;
         };
+        empty = early;
+      };
       based = λ low. is.based (omega arith);
     }
 

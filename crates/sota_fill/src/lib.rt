@@ -5,8 +5,11 @@ mod bests;
 mod broad;
 mod fill;
 pub mod laws;
+mod part;
 mod sums;
+mod target;
 
-pub use bests::base_of;
 pub use broad::Summers;
 pub use fill::fill_extent;
+pub use part::Part;
+pub use target::{Target, base_of};

@@ -1,10 +1,9 @@
 -- One extent after another, until all needs are met.
-use Rattle.std.proofs.Common.{ℕ, zero, suc, ◌≡◌, ◌≢◌, ◌+◌, ◌-◌, ◌*◌, ◌<◌, ◌≤◌, ◌⊎◌, inl, inr, max, List, [], ◌∷◌, ◌++◌, length, slice_index, Option, Some, refl, sym, ◌∙◌, ap, subst, arith, ⊎_elim}
+use Rattle.std.proofs.Common.{ℕ, zero, suc, ◌≡◌, ◌≢◌, ◌+◌, ◌-◌, ◌*◌, ◌<◌, ◌≤◌, inl, inr, max, List, [], ◌∷◌, length, slice_index, refl, sym, ◌∙◌, ap, subst, arith, ⊎_elim}
 use Rattle.std.specs.List.{sum}
 use Rattle.std.proofs.Math.ListN.{set}
 use Rattle.std.proofs.lemmas.Bool.{cases_eq}
 use Rattle.std.proofs.lemmas.List.{get_or-set_same, get_or-set_other}
-use Rattle.sota_units.specs.Limits.{BUDGET_LIMIT}
 use Rattle.sota_network.specs.Network.{Net, IsNode}
 use Rattle.sota_network.specs.Numbers.{listed}
 use Rattle.sota_network.specs.Region.{need}
@@ -14,7 +13,7 @@ use Rattle.sota_kept.specs.TableLists.{AreTables, table_of}
 use Rattle.sota_kept.specs.Asks.{IsGrown, left_to_push}
 use Rattle.sota_order.specs.Orders.{OrderView, CanBeMet, IsReach, IsNext, IsMet, need_at, end_of, with_front}
 use Rattle.sota_order.specs.declared.order.Extent.{Extent}
-use Rattle.sota_tables.specs.Views.{TablesView, lists_of, OnlyAt, SameNodes, table_at, room_of}
+use Rattle.sota_tables.specs.Views.{TablesView, lists_of, SameNodes, table_at, room_of}
 use Rattle.sota_fill.specs.Fills.{IsLonger}
 use Rattle.sota_plan.specs.Extends.{Agrees, left_of}
 use Rattle.sota_plan.proofs.Preparing.{sum-last}

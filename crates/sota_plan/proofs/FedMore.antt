@@ -1,17 +1,17 @@
 -- Values that are fed to the summers of an arc.
-use Rattle.std.proofs.Common.{ℕ, zero, suc, ◌≡◌, ◌≢◌, ◌+◌, ◌-◌, ◌<◌, ◌≤◌, max, false, Option, None, Some, List, [], ◌∷◌, ◌++◌, length, get_or, refl, sym, ◌∙◌, ap, subst, arith, ⊎_elim}
+use Rattle.std.proofs.Common.{ℕ, zero, suc, ◌≡◌, ◌+◌, ◌-◌, ◌<◌, ◌≤◌, max, Option, None, Some, List, [], ◌∷◌, ◌++◌, length, get_or, refl, sym, ◌∙◌, ap, subst, arith, ⊎_elim}
 use Rattle.std.specs.Prelude.{Box}
 use Rattle.std.specs.declared.alloc.Global.{Global}
 use Rattle.std.proofs.lemmas.Bool.{cases_lt, le-ltb, ne_eqb, eq-eqb}
 use Rattle.std.proofs.Math.ListN.{set}
 use Rattle.std.proofs.lemmas.List.{length-append, get_or_append_left, get_or-append_right, get_or-set_same}
 use Rattle.sota_units.specs.Rounding.{ONE}
-use Rattle.sota_hist.specs.Time.{is_closed, least_tick}
+use Rattle.sota_hist.specs.Time.{least_tick}
 use Rattle.sota_network.specs.Network.{Net}
 use Rattle.sota_network.specs.Grid.{lo, hi}
 use Rattle.sota_network.specs.declared.network.Arc.{Arc}
 use Rattle.sota_kept.specs.Ticks.{least_to}
-use Rattle.sota_kept.specs.NodeTables.{NodeTable, IsReadyAt, lower_of, upper_of, lower_in, upper_in}
+use Rattle.sota_kept.specs.NodeTables.{NodeTable, IsReadyAt, lower_in, upper_in}
 use Rattle.sota_online.specs.Summer.{SummerState, kernel_of, fed_more}
 use Rattle.sota_fill.specs.declared.broad.Summers.{Summers}
 use Rattle.sota_fill.specs.Fed.{IsFed, SummersList, unboxed, summers_at}

@@ -1,4 +1,4 @@
-use Rattle.std.proofs.Common.{ℕ, ◌≡◌, ◌+◌, ◌<◌, ◌≤◌, sym, ◌∙◌, arith}
+use Rattle.std.proofs.Common.{◌+◌, ◌<◌, sym, ◌∙◌, arith}
 use Rattle.sota_hist.specs.Time.{least_tick}
 use Rattle.sota_fill.proofs.Feeding.{fed-before, fed-at}
 use Rattle.sota_fill.proofs.broad.broad_sum.Goals as goal

@@ -1,4 +1,4 @@
-use Rattle.std.proofs.Common.{ℕ, ◌≡◌, ◌-◌, ◌≤◌, List, slice_index, subst, sym, ap, ◌∙◌, arith}
+use Rattle.std.proofs.Common.{ℕ, ◌-◌, ◌≤◌, slice_index, subst, sym, ap, ◌∙◌, arith}
 use Rattle.sota_hist.specs.Time.{IsTime}
 use Rattle.sota_network.specs.Grid.{weighed}
 use Rattle.sota_fill.proofs.Tiles.{sum-below, sum-above}

@@ -1,4 +1,4 @@
-use Rattle.std.proofs.Common.{ℕ, ◌≡◌, ◌+◌, ◌-◌, ◌≤◌, List, slice_index, sym, ap, ◌∙◌, arith}
+use Rattle.std.proofs.Common.{ℕ, ◌≡◌, ◌+◌, ◌-◌, ◌≤◌, slice_index, sym, ap, ◌∙◌, arith}
 use Rattle.sota_network.specs.Grid.{weighed}
 use Rattle.sota_fill.proofs.Tiles.{sum-above}
 use Rattle.sota_fill.proofs.sums.tile_at.Goals as goal

@@ -1,14 +1,13 @@
 -- The pairs up to the first place, and the few that come up to the last.
-use Rattle.std.proofs.Common.{ℕ, ◌≡◌, ◌+◌, ◌*◌, ◌^◌, ◌<◌, ◌≤◌, length, slice_index, subst, sym, ap, ◌∙◌, arith, List}
+use Rattle.std.proofs.Common.{ℕ, ◌≡◌, ◌+◌, ◌*◌, ◌^◌, ◌<◌, ◌≤◌, length, slice_index, subst, ap, ◌∙◌, arith, List}
 use Rattle.std.proofs.Math.ListN.{set}
 use Rattle.std.proofs.lemmas.List.{get_or-set_other}
 use Rattle.std.proofs.lemmas.Grind.{common_steps}
 use Rattle.sota_network.specs.Grid.{weighed}
 use Rattle.sota_block.specs.Pairs.{pairs_sum}
-use Rattle.std.specs.List.{All}
 use Rattle.sota_units.specs.Rounding.{ONE, SCALE_LIMIT}
-use Rattle.sota_hist.specs.Time.{IsTime, total, within, least_tick}
-use Rattle.sota_fill.proofs.Tiles.{total-within, total-drop, within-all, within-least, within-length, IsFilled, IsFilled-next, edge-few, edge-sum, no-edge}
+use Rattle.sota_hist.specs.Time.{IsTime, total, within}
+use Rattle.sota_fill.proofs.Tiles.{total-within, within-all, within-least, within-length, IsFilled-next, edge-few, edge-sum, no-edge}
 use Rattle.sota_fill.proofs.sums.tile_sums.Goals as goal
 
 pub pair_sums-requires-clause-few : goal.pair_sums-requires-clause-few
@@ -79,9 +78,9 @@ returns-else-not-is_empty c = λ j h.
 pub loop-j-init : goal.loop-j-init
 loop-j-init c = record {
   filled = record {
-      room = omega arith;
-      done = λ x h. absurd (omega arith);
-      left = λ x up less. c.pair_sums.ensures.sums x less ∙ ap (pairs_sum c.args.row.now (c.args.at + x)) c.within-front.ensures;
-    };
+    room = omega arith;
+    done = λ x h. absurd (omega arith);
+    left = λ x up less. c.pair_sums.ensures.sums x less ∙ ap (pairs_sum c.args.row.now (c.args.at + x)) c.within-front.ensures;
+  };
   small = λ x up less. c.pair_sums.ensures.small x less;
 }

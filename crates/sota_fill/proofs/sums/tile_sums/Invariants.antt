@@ -1,4 +1,4 @@
-use Rattle.std.proofs.Common.{ℕ, ◌≡◌, ◌+◌, ◌<◌, ◌≤◌, ◌^◌, length, slice_index}
+use Rattle.std.proofs.Common.{ℕ, ◌+◌, ◌<◌, ◌≤◌, ◌^◌, slice_index}
 use Rattle.sota_hist.specs.Time.{within}
 use Rattle.sota_network.specs.Grid.{weighed}
 use Rattle.sota_block.specs.Pairs.{pairs_sum}

@@ -1,8 +1,7 @@
-use Rattle.std.proofs.Common.{ℕ, ◌≡◌, ◌+◌, ◌-◌, ◌*◌, ◌<◌, ◌≤◌, List, Option, None, length, map, slice_index, slice_index_or, refl, sym, ◌∙◌, ap, subst, arith}
+use Rattle.std.proofs.Common.{ℕ, ◌≡◌, ◌+◌, ◌-◌, ◌*◌, ◌<◌, ◌≤◌, List, map, slice_index, refl, sym, ◌∙◌, ap, subst, arith}
 use Rattle.std.proofs.lemmas.List.{length-map}
 use Rattle.sota_network.specs.Network.{Net, IsNode}
-use Rattle.sota_kept.specs.Ticks.{END_LIMIT, up_to}
-use Rattle.sota_kept.specs.NodeTables.{NodeTable, IsExtent, IsGrownAt, IsReadyAt, AreReady, known_end}
+use Rattle.sota_kept.specs.NodeTables.{NodeTable, IsGrownAt, IsReadyAt, AreReady, known_end}
 use Rattle.sota_kept.specs.States.{missing_in}
 use Rattle.sota_kept.specs.TableLists.{AreTables, table_of, state_of}
 use Rattle.sota_order.specs.Orders.{OrderView, need_at}
@@ -13,19 +12,15 @@ use Rattle.sota_plan.specs.Extends.{left_of}
 use Rattle.sota_plan.specs.Runs.{RunView, IsReady, states_of}
 use Rattle.sota_plan.proofs.Stepping.{TableIs}
 use Rattle.sota_plan.proofs.Extending.{going-first, next-extent, next-off, left-less, going-next, going-met, going-count, left-is, grown-is, tables-new}
-use Rattle.sota_plan.proofs.Extended.{ready-node, ready-tables, ready-lists, ready-agrees, ready-can, ready-sums}
+use Rattle.sota_plan.proofs.Extended.{ready-node, ready-tables, ready-lists, ready-agrees, ready-can, ready-sums, least-times}
 use Rattle.sota_plan.proofs.SumGoing.{WereFed, summed-can, fed-all-arcs, summed-next, grown-rise, spent-arc, spent-none}
 use Rattle.sota_plan.proofs.extension.extend_all.Goals as goal
 
-pub feed_extent-requires-clause-least : goal.feed_extent-requires-clause-least
-feed_extent-requires-clause-least g c = λ i low high.
-    let net : Net = c.args.network.now in
-    let region = c.args.region.now in
-    let R : RegionLaws net region = c.region_laws.ensures net region c.requires.valid c.requires.region c.requires.budget in
-    ap (λ (xs : List (Option ℕ)). up_to END_LIMIT (slice_index_or xs (i - 1) None)) c.as_slice-least.ensures ∙ R.times i (low, high)
-
-pub feed_extent-requires-clause-least_nodes : goal.feed_extent-requires-clause-least_nodes
-feed_extent-requires-clause-least_nodes g c = ap (λ (xs : List (Option ℕ)). length xs) c.as_slice-least.ensures ∙ c.requires.region.nodes
+pub feed_extent-requires-clause-target : goal.feed_extent-requires-clause-target
+feed_extent-requires-clause-target g c =
+    let R : RegionLaws c.args.network.now c.args.region.now = c.region_laws.ensures c.args.network.now c.args.region.now c.requires.valid c.requires.region c.requires.budget in
+    let is = least-times c.args.network.now c.args.region.now c.as_slice.result.now R c.as_slice.ensures in
+    record { nodes = is.0; times = is.1 }
 
 pub feed_extent-requires-clause-extent : goal.feed_extent-requires-clause-extent
 feed_extent-requires-clause-extent g c =
@@ -73,15 +68,11 @@ fill_extent-requires-clause-unfilled g c =
       room = omega (arith, start, next.reach.need, going.agrees.room extent.node next.node);
     }
 
-pub fill_extent-requires-clause-least : goal.fill_extent-requires-clause-least
-fill_extent-requires-clause-least g c = λ i low high.
-    let net : Net = c.args.network.now in
-    let region = c.args.region.now in
-    let R : RegionLaws net region = c.region_laws.ensures net region c.requires.valid c.requires.region c.requires.budget in
-    ap (λ (xs : List (Option ℕ)). up_to END_LIMIT (slice_index_or xs (i - 1) None)) c.as_slice-least.ensures ∙ R.times i (low, high)
-
-pub fill_extent-requires-clause-least_nodes : goal.fill_extent-requires-clause-least_nodes
-fill_extent-requires-clause-least_nodes g c = ap (λ (xs : List (Option ℕ)). length xs) c.as_slice-least.ensures ∙ c.requires.region.nodes
+pub fill_extent-requires-clause-target : goal.fill_extent-requires-clause-target
+fill_extent-requires-clause-target g c =
+    let R : RegionLaws c.args.network.now c.args.region.now = c.region_laws.ensures c.args.network.now c.args.region.now c.requires.valid c.requires.region c.requires.budget in
+    let is = least-times c.args.network.now c.args.region.now c.as_slice.result.now R c.as_slice.ensures in
+    record { nodes = is.0; times = is.1 }
 
 pub fill_extent-requires-clause-fed : goal.fill_extent-requires-clause-fed
 fill_extent-requires-clause-fed g c =

@@ -1,5 +1,5 @@
 use Rattle.std.proofs.Common.{ℕ, ◌≡◌, ◌<◌, ◌≤◌, max, nat_lt, length, slice_index, slice_index_or, None, Some, if◌then◌else◌}
-use Rattle.sota_fill.proofs.bests.choose.Given as goal
+use Rattle.sota_fill.proofs.part.choose.Given as goal
 
 abbrev pub invariant-loop-place : goal.invariant-loop-place
 invariant-loop-place l = record {

@@ -1,5 +1,5 @@
 use Rattle.std.proofs.Common.{ℕ, ◌≡◌, ◌<◌, ◌≤◌, max, length, slice_index}
-use Rattle.sota_fill.proofs.bests.raise.Given as goal
+use Rattle.sota_fill.proofs.part.raise.Given as goal
 
 abbrev pub invariant-loop-place : goal.invariant-loop-place
 invariant-loop-place l = record {
