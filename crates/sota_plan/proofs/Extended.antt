@@ -12,7 +12,7 @@ use Rattle.sota_tables.specs.Views.{TablesView, lists_of, table_at}
 use Rattle.sota_fill.specs.Fed.{SummersList}
 use Rattle.sota_plan.specs.Laws.{RegionLaws}
 use Rattle.sota_plan.specs.Runs.{ArcSums, RunView, IsReady, states_of}
-use Rattle.sota_plan.specs.Extends.{Agrees, AllSummed}
+use Rattle.sota_plan.proofs.Extends.{Agrees, AllSummed}
 use Rattle.sota_plan.proofs.Stepping.{TableIs}
 use Rattle.sota_plan.proofs.Preparing.{can-be-met}
 use Rattle.sota_plan.proofs.SumGoing.{summed-first}

@@ -90,14 +90,14 @@ base-low net dest i s is =
     ⊎_elim (λ (low : s.base ≤ least_to net dest i). low) (λ (low : s.front ≤ least_to net dest i). let same : s.base ≡ least_to net dest i = is.based low in omega arith) is.settled.kept.least
 
 -- ---- the summers of an arc, by its number
-pub summers-read : {Z : Type 0} (broad : SummersList Z) (e i : ℕ) (d : Option (Box (Summers Z) Global)) (two : Box (Summers Z) Global) → i ≡ e → i - 1 < length broad → get_or broad (i - 1) d ≡ Some two → summers_at broad e ≡ Some two.value
-summers-read {Z} broad e i d two same within is =
-    let at : get_or broad (e - 1) None ≡ Some two = ap (λ (n : ℕ). get_or broad (n - 1) None) (sym same) ∙ get_or-default broad (i - 1) None d within ∙ is in
+pub summers-read : {Z : Type 0} (broad : SummersList Z) (e i n : ℕ) (d : Option (Box (Summers Z) Global)) (two : Box (Summers Z) Global) → i ≡ e → (1 ≤ e) × (e ≤ n) → length broad ≡ n → get_or broad (i - 1) d ≡ Some two → summers_at broad e ≡ Some two.value
+summers-read {Z} broad e i n d two same number long is =
+    let at : get_or broad (e - 1) None ≡ Some two = ap (λ (n : ℕ). get_or broad (n - 1) None) (sym same) ∙ get_or-default broad (i - 1) None d (omega (arith, number.0, number.1)) ∙ is in
     ap unboxed at
 
-pub summers-set : {Z : Type 0} (broad : SummersList Z) (e i : ℕ) (two : Box (Summers Z) Global) → i ≡ e → i - 1 < length broad → summers_at (set broad (i - 1) (Some two)) e ≡ Some two.value
-summers-set {Z} broad e i two same within =
-    ap (λ (n : ℕ). summers_at (set broad (i - 1) (Some two)) n) (sym same) ∙ ap unboxed (get_or-set_same broad (i - 1) (Some two) None within)
+pub summers-set : {Z : Type 0} (broad : SummersList Z) (e i n : ℕ) (two : Box (Summers Z) Global) → i ≡ e → (1 ≤ e) × (e ≤ n) → length broad ≡ n → summers_at (set broad (i - 1) (Some two)) e ≡ Some two.value
+summers-set {Z} broad e i n two same number long =
+    ap (λ (k : ℕ). summers_at (set broad (k - 1) (Some two)) e) same ∙ ap unboxed (get_or-set_same broad (e - 1) (Some two) None (omega (arith, number.0, number.1)))
 
 -- what feeding both does
 pub summed-more : {Z : Type 0} (state : Z → SummerState) (net : Net) (dest : ℕ) (arc : Arc) (count total to base : ℕ) (two new : Summers Z) (tables : ℕ → NodeTable) → base ≡ least_to net dest arc.head

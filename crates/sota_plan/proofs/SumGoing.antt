@@ -26,7 +26,7 @@ use Rattle.sota_fill.specs.Fed.{IsFed, AllFed, SummersList, unboxed, summers_at}
 use Rattle.sota_fill.specs.Fills.{IsLonger}
 use Rattle.sota_plan.specs.Runs.{ArcSums, states_of, is_broad, most_fed, unfed, first_sums, values_fed, HasSpent}
 use Rattle.sota_plan.specs.Summed.{IsSummed, SummedAs, CanFeed, AllCanFeed, values_below}
-use Rattle.sota_plan.specs.Extends.{AllSummed, fed_so_far}
+use Rattle.sota_plan.proofs.Extends.{AllSummed, fed_so_far}
 use Rattle.sota_plan.specs.Laws.{TimeLaws}
 use Rattle.sota_plan.proofs.FedMore.{get_or-default}
 
