@@ -1,0 +1,5 @@
+pub mod Bounds
+pub mod Fed
+pub mod Fills
+pub mod Laws
+pub mod Rows

@@ -1,0 +1,111 @@
+// Entries of a node, at the budgets from its known end on.
+ghost use Rattle.std.specs.Prelude.{ℕ, ◌≡◌, ◌+◌, ◌-◌, ◌*◌, ◌<◌, ◌≤◌, length, slice_index};
+ghost use Rattle.std.specs.Prelude.{slice_index_or, None};
+ghost use Rattle.sota_network.specs.Grid.{plain_sum, best_sum, choice_of};
+ghost use Rattle.sota_kept.specs.NodeTables.{AreReady, lower_in, upper_in};
+ghost use Rattle.sota_tables.specs.Views.{table_at};
+ghost use Rattle.sota_fill.specs.Fed.{AllFed, IsTarget};
+ghost use Rattle.sota_fill.specs.Fills.{IsLonger, IsUnfilled};
+
+use crate::bests::find_bests;
+use crate::broad::Summers;
+use crate::laws::filling_laws;
+use crate::part::{Bound, PART, Part, round};
+use crate::target::Target;
+use sota_online::Summer;
+use sota_tables::Tables;
+use sota_units::{NodeId, Steps};
+use std::sync::ledger::Ledger;
+
+/// Adds so many entries of a node that is not the destination, from its known end on, by the best
+/// sums there. All that these read was known.
+fn push_bests<P: Ledger>(
+    tables: &mut Tables,
+    target: &Target,
+    node: NodeId,
+    from: u32,
+    count: usize,
+    part: &mut Part,
+    pushes: &mut Steps<P>,
+)
+    requires unfilled { IsUnfilled target.now.network.now target.now.dest node from (from + count)
+        tables.old }
+    requires count { count ≤ 64 }
+    requires lower { (x : ℕ) → x < count → slice_index part.old.lower x
+        ≡ best_sum target.now.network.now (lower_in target.now.dest (table_at tables.old)) node
+        (from + x) }
+    requires upper { (x : ℕ) → x < count → slice_index part.old.upper x
+        ≡ best_sum target.now.network.now (upper_in target.now.dest (table_at tables.old)) node
+        (from + x) }
+    requires choices { (x : ℕ) → x < count → slice_index_or part.old.choices x None
+        ≡ choice_of target.now.network.now.arcs
+        (λ arc. plain_sum arc (lower_in target.now.dest (table_at tables.old)) (from + x)) node }
+    ensures ready { AreReady target.now.network.now target.now.dest (table_at tables.new) }
+    ensures longer { IsLonger node count tables.old tables.new }
+    ensures count { pushes.new ≡ pushes.old + 3 * count }
+{
+    filling_laws();
+    let scale = target.network.scale();
+    round(&part.lower, scale, Bound::Lower, &mut part.floors, count);
+    round(&part.upper, scale, Bound::Upper, &mut part.ceilings, count);
+    let (floors, ceilings) = (&part.floors[..count], &part.ceilings[..count]);
+    tables.push_extent(node, floors, ceilings, &part.choices[..count], pushes);
+}
+
+/// Adds so many entries of a node that is not the destination, from its known end on. All that
+/// these read is known.
+fn fill_part<Z: Summer, P: Ledger>(
+    tables: &mut Tables,
+    target: &Target,
+    broad: &[Option<Box<Summers<Z>>>],
+    node: NodeId,
+    from: u32,
+    count: usize,
+    part: &mut Part,
+    pushes: &mut Steps<P>,
+)
+    requires unfilled { IsUnfilled target.now.network.now target.now.dest node from (from + count)
+        tables.old }
+    requires count { count ≤ 64 }
+    requires broad { length broad.now ≡ length target.now.network.now.arcs }
+    requires target { IsTarget target.now }
+    requires fed { AllFed Z.state target.now.network.now target.now.dest node (from + count)
+        broad.now }
+    ensures ready { AreReady target.now.network.now target.now.dest (table_at tables.new) }
+    ensures longer { IsLonger node count tables.old tables.new }
+    ensures count { pushes.new ≡ pushes.old + 3 * count }
+{
+    filling_laws();
+    find_bests(target, tables, broad, node, from, count, part);
+    push_bests(tables, target, node, from, count, part, pushes);
+}
+
+/// Fills an extent of a node that is not the destination: adds its entries from the known end up to
+/// `to`. All that these read is known, and the summers of the arcs that leave the node were fed as
+/// far. It takes no memory; what is found on the way is kept in the part that is lent.
+pub fn fill_extent<Z: Summer, P: Ledger>(
+    tables: &mut Tables,
+    target: &Target,
+    broad: &[Option<Box<Summers<Z>>>],
+    node: NodeId,
+    from: u32,
+    to: u32,
+    part: &mut Part,
+    pushes: &mut Steps<P>,
+)
+    requires unfilled { IsUnfilled target.now.network.now target.now.dest node from to tables.old }
+    requires broad { length broad.now ≡ length target.now.network.now.arcs }
+    requires target { IsTarget target.now }
+    requires fed { AllFed Z.state target.now.network.now target.now.dest node to broad.now }
+    ensures ready { AreReady target.now.network.now target.now.dest (table_at tables.new) }
+    ensures longer { IsLonger node (to - from) tables.old tables.new }
+    ensures count { pushes.new ≡ pushes.old + 3 * (to - from) }
+{
+    filling_laws();
+    let mut budget = from;
+    while budget < to {
+        let count = ((to - budget) as usize).min(PART);
+        fill_part(tables, target, broad, node, budget, count, part, pushes);
+        budget += count as u32;
+    }
+}

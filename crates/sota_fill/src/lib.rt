@@ -1,0 +1,15 @@
+//! Fills the entries of a node at budgets in a row, by the sums of the arcs that leave it.
+#![tactic(auto)]
+
+mod bests;
+mod broad;
+mod fill;
+pub mod laws;
+mod part;
+mod sums;
+mod target;
+
+pub use broad::Summers;
+pub use fill::fill_extent;
+pub use part::Part;
+pub use target::{Target, base_of};

@@ -1,0 +1,123 @@
+-- Values that are fed to the summers of an arc.
+use Rattle.std.proofs.Common.{ℕ, zero, suc, ◌≡◌, ◌+◌, ◌-◌, ◌<◌, ◌≤◌, max, Option, None, Some, List, [], ◌∷◌, ◌++◌, length, get_or, refl, sym, ◌∙◌, ap, subst, arith, ⊎_elim}
+use Rattle.std.specs.Prelude.{Box}
+use Rattle.std.specs.declared.alloc.Global.{Global}
+use Rattle.std.proofs.lemmas.Bool.{cases_lt, le-ltb, ne_eqb, eq-eqb}
+use Rattle.std.proofs.Math.ListN.{set}
+use Rattle.std.proofs.lemmas.List.{length-append, get_or_append_left, get_or-append_right, get_or-set_same}
+use Rattle.sota_units.specs.Rounding.{ONE}
+use Rattle.sota_hist.specs.Time.{least_tick}
+use Rattle.sota_network.specs.Network.{Net}
+use Rattle.sota_network.specs.Grid.{lo, hi}
+use Rattle.sota_network.specs.declared.network.Arc.{Arc}
+use Rattle.sota_kept.specs.Ticks.{least_to}
+use Rattle.sota_kept.specs.NodeTables.{NodeTable, IsReadyAt, lower_in, upper_in}
+use Rattle.sota_online.specs.Summer.{SummerState, kernel_of, fed_more}
+use Rattle.sota_fill.specs.declared.broad.Summers.{Summers}
+use Rattle.sota_fill.specs.Fed.{IsFed, SummersList, unboxed, summers_at}
+use Rattle.sota_fill.specs.Fills.{ReadsAs}
+use Rattle.sota_plan.specs.Summed.{IsSummed, values_below}
+
+pub fed-next : (old new : SummerState) (v : ℕ) (time : List (ℕ × ℕ)) (base : ℕ) (f : ℕ → ℕ) → IsFed old time base f → 1 ≤ old.room → new ≡ fed_more v old → v ≡ f (base + length old.values) → IsFed new time base f
+fed-next old new v time base f fed room at is =
+    let long : length (old.values ++ v ∷ []) ≡ length old.values + 1 = length-append old.values (v ∷ []) in
+    let total : length old.values + old.room ≡ length (old.values ++ v ∷ []) + (old.room - 1) = omega (arith, long, room) in
+    subst (λ (s : SummerState). IsFed s time base f) (sym at)
+    (record {
+      kernel = fed.kernel ∙ ap (λ (n : ℕ). kernel_of n time) total;
+      values = λ a less.
+          ⊎_elim
+          (λ (early : a < length old.values). get_or_append_left old.values (v ∷ []) 0 a early ∙ fed.values a early)
+          (λ (last : length old.values ≤ a).
+          let here : a ≡ length old.values = omega (arith, long, less, last) in
+          let place : a - length old.values ≡ 0 = omega (arith, here) in
+          get_or-append_right old.values (v ∷ []) (length old.values) a 0 refl last ∙ ap (λ (k : ℕ). get_or (v ∷ []) k 0) place ∙ is ∙ ap (λ (n : ℕ). f (base + n)) (sym here))
+          (cases_lt a (length old.values));
+      below = fed.below;
+    })
+
+-- ---- a summer was fed on, until so many values are fed: value `a` is the given one
+pub record FedTo (old now : SummerState) (count index : ℕ) (value : ℕ → ℕ) : Type 0 where
+  pub fed : (time : List (ℕ × ℕ)) (base : ℕ) (f : ℕ → ℕ) → IsFed old time base f → ((a : ℕ) → a < count → value a ≡ f (base + a)) → IsFed now time base f
+  pub count_is : length now.values ≡ index
+  pub low : length old.values ≤ index
+  pub high : index ≤ max (length old.values) count
+  pub total : length now.values + now.room ≡ length old.values + old.room
+
+pub fed-to-more : (old now new : SummerState) (count index v : ℕ) (value : ℕ → ℕ) → FedTo old now count index value → index < count → count ≤ length old.values + old.room → v ≡ value index → new ≡ fed_more v now → FedTo old new count (index + 1) value
+fed-to-more old now new count index v value to less room is at =
+    let more : length new.values ≡ length now.values + 1 = ap (λ (s : SummerState). length s.values) at ∙ length-append now.values (v ∷ []) in
+    let left : new.room ≡ now.room - 1 = ap (λ (s : SummerState). s.room) at in
+    let some : 1 ≤ now.room = omega (arith, less, room, to.total, to.count_is) in
+    record {
+      fed = λ time base f start agree. fed-next now new v time base f (to.fed time base f start agree) some at (is ∙ agree index less ∙ ap (λ (n : ℕ). f (base + n)) (sym to.count_is));
+      count_is = omega (arith, more, to.count_is);
+      low = omega (arith, to.low);
+      high = omega (arith, less);
+      total = omega (arith, more, left, some, to.total);
+    }
+
+-- ---- what a row has at a budget from a base on
+pub get_or-default : {X : Type 0} (xs : List X) (k : ℕ) (d e : X) → k < length xs → get_or xs k d ≡ get_or xs k e
+get_or-default [] k d e h = absurd (omega arith)
+get_or-default (x ∷ xs) zero d e h = refl
+get_or-default (x ∷ xs) (suc k) d e h = get_or-default xs k d e (omega arith)
+
+pub lower-read : (dest head : ℕ) (tables : ℕ → NodeTable) (row : List ℕ) (base tb a : ℕ) → (head ≡ dest → ⊥) → row ≡ (tables head).lower → tb ≡ (tables head).base → tb ≤ base
+    → get_or row (base - tb + a) 0 ≡ lower_in dest tables head (base + a)
+lower-read dest head tables row base tb a off at is up =
+    let above : (tables head).base ≤ base + a = omega arith in
+    let place : base - tb + a ≡ base + a - (tables head).base = omega arith in
+    rw (ne_eqb head dest off, le-ltb (base + a) (tables head).base above) (ap (λ (k : ℕ). get_or row k 0) place ∙ ap (λ (xs : List ℕ). get_or xs (base + a - (tables head).base) 0) at)
+
+pub upper-read : (dest head : ℕ) (tables : ℕ → NodeTable) (row : List ℕ) (base tb a : ℕ) → (head ≡ dest → ⊥) → row ≡ (tables head).upper → tb ≡ (tables head).base → tb ≤ base
+    → get_or row (base - tb + a) 0 ≡ upper_in dest tables head (base + a)
+upper-read dest head tables row base tb a off at is up =
+    let above : (tables head).base ≤ base + a = omega arith in
+    let place : base - tb + a ≡ base + a - (tables head).base = omega arith in
+    rw (ne_eqb head dest off, le-ltb (base + a) (tables head).base above) (ap (λ (k : ℕ). get_or row k 0) place ∙ ap (λ (xs : List ℕ). get_or xs (base + a - (tables head).base) 0) at)
+
+-- at the destination each value is one
+pub lower-one : (dest head u v : ℕ) (tables : ℕ → NodeTable) → head ≡ dest → lower_in dest tables head u ≡ v → v ≡ ONE
+lower-one dest head u v tables here is = sym ((rw (eq-eqb head dest here) at is))
+
+pub upper-one : (dest head u v : ℕ) (tables : ℕ → NodeTable) → head ≡ dest → upper_in dest tables head u ≡ v → v ≡ ONE
+upper-one dest head u v tables here is = sym ((rw (eq-eqb head dest here) at is))
+
+-- the base of a table that is ready is not above the least time
+pub base-low : (net : Net) (dest i : ℕ) (s : NodeTable) → IsReadyAt net dest i s → s.base ≤ least_to net dest i
+base-low net dest i s is =
+    ⊎_elim (λ (low : s.base ≤ least_to net dest i). low) (λ (low : s.front ≤ least_to net dest i). let same : s.base ≡ least_to net dest i = is.based low in omega arith) is.settled.kept.least
+
+-- ---- the summers of an arc, by its number
+pub summers-read : {Z : Type 0} (broad : SummersList Z) (e i n : ℕ) (d : Option (Box (Summers Z) Global)) (two : Box (Summers Z) Global) → i ≡ e → (1 ≤ e) × (e ≤ n) → length broad ≡ n → get_or broad (i - 1) d ≡ Some two → summers_at broad e ≡ Some two.value
+summers-read {Z} broad e i n d two same number long is =
+    let at : get_or broad (e - 1) None ≡ Some two = ap (λ (n : ℕ). get_or broad (n - 1) None) (sym same) ∙ get_or-default broad (i - 1) None d (omega (arith, number.0, number.1)) ∙ is in
+    ap unboxed at
+
+pub summers-set : {Z : Type 0} (broad : SummersList Z) (e i n : ℕ) (two : Box (Summers Z) Global) → i ≡ e → (1 ≤ e) × (e ≤ n) → length broad ≡ n → summers_at (set broad (i - 1) (Some two)) e ≡ Some two.value
+summers-set {Z} broad e i n two same number long =
+    ap (λ (k : ℕ). summers_at (set broad (k - 1) (Some two)) e) same ∙ ap unboxed (get_or-set_same broad (e - 1) (Some two) None (omega (arith, number.0, number.1)))
+
+-- what feeding both does
+pub summed-more : {Z : Type 0} (state : Z → SummerState) (net : Net) (dest : ℕ) (arc : Arc) (count total to base : ℕ) (two new : Summers Z) (tables : ℕ → NodeTable) → base ≡ least_to net dest arc.head
+    → IsSummed state net dest arc count total two → count ≤ values_below net dest arc to → ReadsAs net dest arc to tables
+    → ((f : ℕ → ℕ) → IsFed (state two.lower) arc.time base f → ((u : ℕ) → base ≤ u → u + least_tick arc.time < to → lower_in dest tables arc.head u ≡ f u) → IsFed (state new.lower) arc.time base f)
+    → ((f : ℕ → ℕ) → IsFed (state two.upper) arc.time base f → ((u : ℕ) → base ≤ u → u + least_tick arc.time < to → upper_in dest tables arc.head u ≡ f u) → IsFed (state new.upper) arc.time base f)
+    → length (state new.lower).values ≡ max (length (state two.lower).values) (to - (least_tick arc.time + base)) → length (state new.upper).values ≡ max (length (state two.upper).values) (to - (least_tick arc.time + base))
+    → length (state new.lower).values + (state new.lower).room ≡ length (state two.lower).values + (state two.lower).room
+    → length (state new.upper).values + (state new.upper).room ≡ length (state two.upper).values + (state two.upper).room
+    → IsSummed state net dest arc (values_below net dest arc to) total new
+summed-more {Z} state net dest arc count total to base two new tables at is less reads lower upper lower-count upper-count lower-total upper-total =
+    let L : ℕ = least_to net dest arc.head in
+    record {
+      open_arc = is.open_arc;
+      lower = subst (λ (b : ℕ). IsFed (state new.lower) arc.time b (lo net dest arc.head)) at
+          (lower (lo net dest arc.head) (subst (λ (b : ℕ). IsFed (state two.lower) arc.time b (lo net dest arc.head)) (sym at) is.lower) (λ u up early. reads.lower is.open_arc u early));
+      upper = subst (λ (b : ℕ). IsFed (state new.upper) arc.time b (hi net dest arc.head)) at
+          (upper (hi net dest arc.head) (subst (λ (b : ℕ). IsFed (state two.upper) arc.time b (hi net dest arc.head)) (sym at) is.upper) (λ u up early. reads.upper is.open_arc u early));
+      lower_count = omega (arith, lower-count, is.lower_count, less, at);
+      upper_count = omega (arith, upper-count, is.upper_count, less, at);
+      lower_total = omega (arith, lower-total, is.lower_total);
+      upper_total = omega (arith, upper-total, is.upper_total);
+    }

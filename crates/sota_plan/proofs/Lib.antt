@@ -1,0 +1,8 @@
+mod Extends
+pub mod Extended
+pub mod Extending
+pub mod FedMore
+pub mod Preparing
+pub mod Readying
+pub mod Stepping
+pub mod SumGoing

@@ -1,0 +1,211 @@
+// Feeds summers the values at the heads of their arcs.
+ghost use Rattle.std.specs.Prelude.{ℕ, ◌≡◌, ◌≢◌, ◌+◌, ◌-◌, ◌<◌, ◌≤◌, max, List, length};
+ghost use Rattle.std.specs.Prelude.{slice_index, None, Some, false};
+ghost use Rattle.sota_units.specs.Rounding.{ONE};
+ghost use Rattle.sota_hist.specs.Time.{is_closed, least_tick};
+ghost use Rattle.sota_network.specs.Network.{IsNet, IsNode, arc_at};
+ghost use Rattle.sota_network.specs.declared.network.Arc.{Arc};
+ghost use Rattle.sota_kept.specs.Ticks.{END_LIMIT};
+ghost use Rattle.sota_kept.specs.NodeTables.{AreReady, IsExtent, known_end};
+ghost use Rattle.sota_kept.specs.NodeTables.{lower_in, upper_in};
+ghost use Rattle.sota_tables.specs.Views.{HasNode, table_at};
+ghost use Rattle.sota_fill.specs.Fed.{IsFed, IsTarget, summers_at};
+ghost use Rattle.sota_fill.specs.Fills.{ReadsAs};
+ghost use Rattle.sota_fill.specs.declared.broad.Summers.{Summers};
+ghost use Rattle.sota_plan.specs.Summed.{CanFeed, AllCanFeed, SummedAs, values_below};
+
+use sota_fill::laws::extents_read_the_grid;
+use sota_fill::{Summers, Target};
+use sota_network::Arc;
+use sota_network::laws::numbers_of_arcs;
+use sota_online::Summer;
+use sota_tables::Tables;
+use sota_units::{ArcId, Grain, NodeId, Steps};
+use std::sync::ledger::Ledger;
+
+/// Feeds a summer until so many values are fed: value `a` is that at the index `skip + a` of a row.
+fn feed_row<Z: Summer, M: Ledger>(
+    summer: &mut Z,
+    row: &[Grain],
+    skip: usize,
+    count: u32,
+    products: &mut Steps<M>,
+)
+    requires room { count ≤ length (Z.state summer.old).values + (Z.state summer.old).room }
+    requires row { 0 < count → skip + count ≤ length row.now }
+    requires limit { skip ≤ 65536 }
+    ensures fed { (time : List (ℕ × ℕ)) (base : ℕ) (f : ℕ → ℕ)
+        → IsFed (Z.state summer.old) time base f
+        → ((a : ℕ) → a < count → slice_index row.now (skip + a) ≡ f (base + a))
+        → IsFed (Z.state summer.new) time base f }
+    ensures count { length (Z.state summer.new).values
+        ≡ max (length (Z.state summer.old).values) count }
+    ensures total { length (Z.state summer.new).values + (Z.state summer.new).room
+        ≡ length (Z.state summer.old).values + (Z.state summer.old).room }
+{
+    for index in summer.fed()..count {
+        summer.feed(row[skip + index as usize], products);
+    }
+}
+
+/// Feeds a summer until so many values are fed: who stands at the destination has arrived.
+fn feed_ones<Z: Summer, M: Ledger>(summer: &mut Z, count: u32, products: &mut Steps<M>)
+    requires room { count ≤ length (Z.state summer.old).values + (Z.state summer.old).room }
+    ensures fed { (time : List (ℕ × ℕ)) (base : ℕ) (f : ℕ → ℕ)
+        → IsFed (Z.state summer.old) time base f
+        → ((a : ℕ) → a < count → ONE ≡ f (base + a))
+        → IsFed (Z.state summer.new) time base f }
+    ensures count { length (Z.state summer.new).values
+        ≡ max (length (Z.state summer.old).values) count }
+    ensures total { length (Z.state summer.new).values + (Z.state summer.new).room
+        ≡ length (Z.state summer.old).values + (Z.state summer.old).room }
+{
+    let mut fed = summer.fed();
+    while fed < count {
+        summer.feed(Grain::ONE, products);
+        fed += 1;
+    }
+}
+
+/// Feeds the two summers of an open arc what the budgets of its tail below `to` rest on: the values
+/// at its head from a base on.
+fn feed_both<Z: Summer, M: Ledger>(
+    tables: &Tables,
+    dest: NodeId,
+    arc: &Arc,
+    two: &mut Summers<Z>,
+    base: u32,
+    to: u32,
+    products: &mut Steps<M>,
+)
+    requires open { is_closed arc.now.time ≡ false }
+    requires base { base ≤ END_LIMIT }
+    requires head { arc.now.head ≢ dest → HasNode tables.now arc.now.head }
+    requires above { arc.now.head ≢ dest → (table_at tables.now arc.now.head).base ≤ base }
+    requires known { arc.now.head ≢ dest
+        → to ≤ known_end (table_at tables.now arc.now.head) + least_tick arc.now.time }
+    requires lower_room { to - (least_tick arc.now.time + base)
+        ≤ length (Z.state two.old.lower).values + (Z.state two.old.lower).room }
+    requires upper_room { to - (least_tick arc.now.time + base)
+        ≤ length (Z.state two.old.upper).values + (Z.state two.old.upper).room }
+    ensures lower { (f : ℕ → ℕ) → IsFed (Z.state two.old.lower) arc.now.time base f
+        → ((u : ℕ) → base ≤ u → u + least_tick arc.now.time < to
+        → lower_in dest (table_at tables.now) arc.now.head u ≡ f u)
+        → IsFed (Z.state two.new.lower) arc.now.time base f }
+    ensures upper { (f : ℕ → ℕ) → IsFed (Z.state two.old.upper) arc.now.time base f
+        → ((u : ℕ) → base ≤ u → u + least_tick arc.now.time < to
+        → upper_in dest (table_at tables.now) arc.now.head u ≡ f u)
+        → IsFed (Z.state two.new.upper) arc.now.time base f }
+    ensures lower_count { length (Z.state two.new.lower).values
+        ≡ max (length (Z.state two.old.lower).values) (to - (least_tick arc.now.time + base)) }
+    ensures upper_count { length (Z.state two.new.upper).values
+        ≡ max (length (Z.state two.old.upper).values) (to - (least_tick arc.now.time + base)) }
+    ensures lower_total { length (Z.state two.new.lower).values + (Z.state two.new.lower).room
+        ≡ length (Z.state two.old.lower).values + (Z.state two.old.lower).room }
+    ensures upper_total { length (Z.state two.new.upper).values + (Z.state two.new.upper).room
+        ≡ length (Z.state two.old.upper).values + (Z.state two.old.upper).room }
+{
+    let count = to
+        .saturating_sub(base)
+        .saturating_sub(arc.time.least().get());
+    if arc.head == dest {
+        feed_ones(&mut two.lower, count, products);
+        feed_ones(&mut two.upper, count, products);
+    } else {
+        let skip = (base - tables.base(arc.head)) as usize;
+        feed_row(
+            &mut two.lower,
+            tables.lower_row(arc.head),
+            skip,
+            count,
+            products,
+        );
+        feed_row(
+            &mut two.upper,
+            tables.upper_row(arc.head),
+            skip,
+            count,
+            products,
+        );
+    }
+}
+
+/// Feeds the two summers of an arc what the budgets of its tail below `to` rest on, where it has
+/// summers.
+fn feed_arc<Z: Summer, M: Ledger>(
+    target: &Target,
+    tables: &Tables,
+    broad: &mut [Option<Box<Summers<Z>>>],
+    number: ArcId,
+    to: u32,
+    products: &mut Steps<M>,
+)
+    requires number { (1 ≤ number) × (number ≤ length target.now.network.now.arcs) }
+    requires nodes { length tables.now.fronts ≡ target.now.network.now.nodes }
+    requires broad { length broad.old ≡ length target.now.network.now.arcs }
+    requires target { IsTarget target.now }
+    requires ready { AreReady target.now.network.now target.now.dest (table_at tables.now) }
+    requires reads { (arc : Arc) → arc_at target.now.network.now number ≡ Some arc
+        → ReadsAs target.now.network.now target.now.dest arc to (table_at tables.now) }
+    requires known { (arc : Arc) → arc_at target.now.network.now number ≡ Some arc
+        → is_closed arc.time ≡ false → arc.head ≢ target.now.dest
+        → to ≤ known_end (table_at tables.now arc.head) + least_tick arc.time }
+    requires can { (arc : Arc) (two : Summers Z) → arc_at target.now.network.now number ≡ Some arc
+        → summers_at broad.old number ≡ Some two
+        → CanFeed Z.state target.now.network.now target.now.dest arc to two }
+    ensures fed { (arc : Arc) (count total : ℕ) → arc_at target.now.network.now number ≡ Some arc
+        → SummedAs Z.state target.now.network.now target.now.dest arc count total
+        (summers_at broad.old number)
+        → count ≤ values_below target.now.network.now target.now.dest arc to
+        → SummedAs Z.state target.now.network.now target.now.dest arc
+        (values_below target.now.network.now target.now.dest arc to) total
+        (summers_at broad.new number) }
+    ensures none { summers_at broad.old number ≡ None → summers_at broad.new number ≡ None }
+    ensures others { (e : ℕ) → 1 ≤ e → e ≢ number
+        → summers_at broad.new e ≡ summers_at broad.old e }
+    ensures length { length broad.new ≡ length broad.old }
+{
+    let arc = target.network.numbered(number);
+    if let Some(two) = &mut broad[number.get() as usize - 1] {
+        let base = target.base(arc.head);
+        feed_both(tables, target.dest, arc, two, base, to, products);
+    }
+}
+
+/// Feeds the summers of all arcs that leave a node what its budgets below `to` rest on.
+pub(crate) fn feed_extent<Z: Summer, M: Ledger>(
+    target: &Target,
+    tables: &Tables,
+    broad: &mut [Option<Box<Summers<Z>>>],
+    node: NodeId,
+    to: u32,
+    products: &mut Steps<M>,
+)
+    requires valid { IsNet target.now.network.now }
+    requires node { IsNode target.now.network.now node }
+    requires nodes { length tables.now.fronts ≡ target.now.network.now.nodes }
+    requires broad { length broad.old ≡ length target.now.network.now.arcs }
+    requires target { IsTarget target.now }
+    requires ready { AreReady target.now.network.now target.now.dest (table_at tables.now) }
+    requires extent { IsExtent target.now.network.now target.now.dest (table_at tables.now) node to }
+    requires can { AllCanFeed Z.state target.now.network.now target.now.dest node to broad.old }
+    ensures fed { (e : ℕ) (arc : Arc) (count total : ℕ)
+        → arc_at target.now.network.now e ≡ Some arc → arc.tail ≡ node
+        → SummedAs Z.state target.now.network.now target.now.dest arc count total
+        (summers_at broad.old e)
+        → count ≤ values_below target.now.network.now target.now.dest arc to
+        → SummedAs Z.state target.now.network.now target.now.dest arc
+        (values_below target.now.network.now target.now.dest arc to) total
+        (summers_at broad.new e) }
+    ensures others { (e : ℕ) (arc : Arc) → arc_at target.now.network.now e ≡ Some arc
+        → arc.tail ≢ node → summers_at broad.new e ≡ summers_at broad.old e }
+    ensures none { (e : ℕ) → 1 ≤ e → summers_at broad.old e ≡ None
+        → summers_at broad.new e ≡ None }
+    ensures length { length broad.new ≡ length broad.old }
+{
+    numbers_of_arcs();
+    extents_read_the_grid();
+    for number in target.network.leaving(node) {
+        feed_arc(target, tables, broad, *number, to, products);
+    }
+}

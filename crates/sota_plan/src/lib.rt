@@ -1,0 +1,17 @@
+//! Plans of an ask: which entries are missing, and how they are filled.
+#![tactic(auto)]
+
+mod extension;
+mod feeding;
+mod laws;
+mod preparation;
+mod run;
+mod steps;
+mod summers;
+
+pub use extension::extend;
+pub use preparation::prepare;
+pub use run::Run;
+
+#[cfg(test)]
+mod tests;

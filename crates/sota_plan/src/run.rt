@@ -1,0 +1,40 @@
+// What is planned for one ask.
+ghost use Rattle.std.specs.Prelude.{◌≡◌};
+
+use sota_bounds::AskRegion;
+use sota_fill::Summers;
+use sota_online::Summer;
+use sota_order::Order;
+use std::marker::Model;
+
+/// What an ask is planned with: its region, the order in which the missing entries are filled, and
+/// two summers for each broad arc. One is fed the lower values at the arc's head, the other the
+/// upper ones.
+#[derive(Drop)]
+pub struct Run<Z: Summer> {
+    pub(crate) region: AskRegion,
+    pub(crate) order: Order,
+    pub(crate) broad: Vec<Option<Box<Summers<Z>>>>,
+}
+
+impl<Z: Summer> Model for Run<Z> {
+    ghost use Rattle.std.specs.Prelude.{map};
+    ghost use Rattle.sota_plan.specs.Runs.{RunView, states_of};
+
+    ghost Value = { RunView };
+
+    ghost view = { λ r. record {
+      region = r.region;
+      order = r.order;
+      sums = map (states_of Z.state) r.broad.items;
+    } };
+}
+
+impl<Z: Summer> Run<Z> {
+    /// The region of the ask.
+    pub fn region(&self) -> &AskRegion
+        ensures { result.now ≡ self.now.region }
+    {
+        &self.region
+    }
+}
