@@ -8,9 +8,9 @@ use Rattle.sota_network.specs.Network.{Net, IsArc, arc_at}
 use Rattle.sota_network.specs.Grid.{weighed}
 use Rattle.sota_network.specs.declared.network.Arc.{Arc}
 use Rattle.sota_sums.specs.Laws.{SumLaws}
-use Rattle.sota_sums.specs.Rounded.{round_by}
-use Rattle.sota_sums.specs.declared.rounding.Rounding.{Rounding}
-use Rattle.sota_sums.specs.declared.rounding.Rounding.TheVariants.{Down, Up}
+use Rattle.sota_sums.specs.Bounds.{rounded_in}
+use Rattle.sota_sums.specs.declared.bound.Bound.{Bound}
+use Rattle.sota_sums.specs.declared.bound.Bound.TheVariants.{Lower, Upper}
 use Rattle.sota_route.specs.Bounds.{value_before, route_value}
 
 -- a positive factor may go
@@ -62,9 +62,9 @@ rounded-gap q x y g h le =
     (omega (arith, ceiling-close q y, floor-close q x h))
 
 -- a rounded sum of at most q wholes
-pub rounded-whole : (q x : ℕ) → 1 ≤ q → x ≤ q * ONE → (r : Rounding) → round_by r q x ≤ ONE
-rounded-whole q x h le Down = cancel q (floor_by q x) ONE h (omega (arith, floor-down q x))
-rounded-whole q x h le Up =
+pub rounded-whole : (q x : ℕ) → 1 ≤ q → x ≤ q * ONE → (r : Bound) → rounded_in r q x ≤ ONE
+rounded-whole q x h le Lower = cancel q (floor_by q x) ONE h (omega (arith, floor-down q x))
+rounded-whole q x h le Upper =
     below q (ceiling_by q x) ONE h (omega (arith, ceiling-close q x))
 
 -- the value before an arc, at the destination and elsewhere
@@ -103,30 +103,30 @@ module _ (sums : SumLaws) (net : Net) (scale : 1 ≤ net.scale) (dest : ℕ)
       let few : total arc.time * ONE ≤ net.scale * ONE = mul-le-mul_right ONE is.total in
       omega arith
 
-  before-whole : (r : Rounding) (v : ℕ → ℕ) (t : ℕ) (arc : Arc) → IsArc net arc
-      → ((u : ℕ) → u < t → v u ≤ ONE) → value_before (round_by r) net dest arc v t ≤ ONE
+  before-whole : (r : Bound) (v : ℕ → ℕ) (t : ℕ) (arc : Arc) → IsArc net arc
+      → ((u : ℕ) → u < t → v u ≤ ONE) → value_before (rounded_in r) net dest arc v t ≤ ONE
   before-whole r v t arc is h =
       ⊎_elim
-      (λ at. rw (before-at_dest (round_by r) net dest arc v t at) (omega arith))
-      (λ off. rw (before-elsewhere (round_by r) net dest arc v t off)
+      (λ at. rw (before-at_dest (rounded_in r) net dest arc v t at) (omega arith))
+      (λ off. rw (before-elsewhere (rounded_in r) net dest arc v t off)
       (rounded-whole net.scale (weighed v t arc.time) scale (weighed-whole v t arc is h) r))
       (cases_eq arc.tail dest)
 
-  value-whole_by : (r : Rounding) (e : ℕ) (rest : List ℕ) (t : ℕ)
-      → ((u : ℕ) → route_value (round_by r) net dest rest u ≤ ONE)
+  value-whole_by : (r : Bound) (e : ℕ) (rest : List ℕ) (t : ℕ)
+      → ((u : ℕ) → route_value (rounded_in r) net dest rest u ≤ ONE)
       → (found : Option Arc) → arc_at net e ≡ found
-      → route_value (round_by r) net dest (e ∷ rest) t ≤ ONE
+      → route_value (rounded_in r) net dest (e ∷ rest) t ≤ ONE
   value-whole_by r e rest t after None is =
-      rw (value-lost (round_by r) net dest e rest t is) (omega arith)
+      rw (value-lost (rounded_in r) net dest e rest t is) (omega arith)
   value-whole_by r e rest t after (Some arc) is =
-      rw (value-go (round_by r) net dest e rest arc t is)
-      (before-whole r (route_value (round_by r) net dest rest) t arc (valid e arc is)
+      rw (value-go (rounded_in r) net dest e rest arc t is)
+      (before-whole r (route_value (rounded_in r) net dest rest) t arc (valid e arc is)
       (λ u less. after u))
 
   -- no value of a route is above one whole
-  pub value-whole : (r : Rounding) (route : List ℕ) (t : ℕ)
-      → route_value (round_by r) net dest route t ≤ ONE
-  value-whole r [] t = rw (value-end (round_by r) net dest t) (omega arith)
+  pub value-whole : (r : Bound) (route : List ℕ) (t : ℕ)
+      → route_value (rounded_in r) net dest route t ≤ ONE
+  value-whole r [] t = rw (value-end (rounded_in r) net dest t) (omega arith)
   value-whole r (e ∷ rest) t =
       value-whole_by r e rest t (λ u. value-whole r rest u) (arc_at net e) refl
 

@@ -8,7 +8,7 @@ ghost use Rattle.sota_units.specs.Rounding.{ONE};
 ghost use Rattle.sota_hist.specs.Time.{IsTime, total};
 ghost use Rattle.sota_network.specs.Network.{Net};
 ghost use Rattle.sota_network.specs.Grid.{weighed};
-ghost use Rattle.sota_sums.specs.Rounded.{round_by};
+ghost use Rattle.sota_sums.specs.Bounds.{rounded_in};
 ghost use Rattle.sota_route.specs.Faults.{is_shortage};
 ghost use Rattle.sota_route.specs.Routes.{start_of};
 ghost use Rattle.sota_route.specs.Bounds.{route_result, route_value, value_before, IsBracket};
@@ -19,7 +19,7 @@ use sota_hist::Histogram;
 use sota_network::laws::arcs_by_number;
 use sota_network::{Arc, Network};
 use sota_sums::laws::sums_of_values;
-use sota_sums::{Rounding, arc_sums, round};
+use sota_sums::{Bound, arc_sums, round};
 use sota_units::{ArcId, Grain, NoMemory, NodeId, Scale};
 use std::alloc::Global;
 
@@ -54,28 +54,28 @@ pub fn route_bracket(
         return Err(fault);
     }
     Ok(RouteAnswer {
-        lower: bound(alloc, network, dest, budget, route, Rounding::Down)?,
-        upper: bound(alloc, network, dest, budget, route, Rounding::Up)?,
+        lower: bound_of(alloc, network, dest, budget, route, Bound::Lower)?,
+        upper: bound_of(alloc, network, dest, budget, route, Bound::Upper)?,
     })
 }
 
 /// One of the two bounds: the values at all budgets are taken back over the route, from its last
 /// arc to its first.
-fn bound(
+fn bound_of(
     alloc: Global,
     network: &Network,
     dest: NodeId,
     budget: u32,
     route: &[ArcId],
-    rounding: Rounding,
+    bound: Bound,
 ) -> Result<Grain, NoMemory>
     requires budget { budget ≤ BUDGET_LIMIT }
     requires arcs { All (λ e. (1 ≤ e) × (e ≤ length network.now.arcs)) route.now }
     ensures { IfOk result (λ value.
-        value ≡ route_value (round_by rounding) network.now dest route.now budget) }
+        value ≡ route_value (rounded_in bound) network.now dest route.now budget) }
 {
     let mut values = vec![in alloc; Grain::ONE; budget as usize + 1]?;
-    take_all_back(network, dest, rounding, route, values.as_mut_slice());
+    take_all_back(network, dest, bound, route, values.as_mut_slice());
     Ok(values[budget as usize])
 }
 
@@ -83,7 +83,7 @@ fn bound(
 fn take_all_back(
     network: &Network,
     dest: NodeId,
-    rounding: Rounding,
+    bound: Bound,
     route: &[ArcId],
     values: &mut [Grain],
 )
@@ -91,7 +91,7 @@ fn take_all_back(
     requires arcs { All (λ e. (1 ≤ e) × (e ≤ length network.now.arcs)) route.now }
     requires ones { (u : ℕ) → u < length values.old → slice_index values.old u ≡ ONE }
     ensures value { (u : ℕ) → u < length values.old → slice_index values.new u
-        ≡ route_value (round_by rounding) network.now dest route.now u }
+        ≡ route_value (rounded_in bound) network.now dest route.now u }
     ensures length { length values.new ≡ length values.old }
 {
     arcs_by_number();
@@ -101,25 +101,25 @@ fn take_all_back(
     while left > 0 {
         left -= 1;
         let arc = network.numbered(route[left]);
-        take_back(arc, scale, dest, rounding, values);
+        take_back(arc, scale, dest, bound, values);
     }
 }
 
 /// Takes the values after an arc back to those before it, at the budgets from 0 on.
-fn take_back(arc: &Arc, scale: Scale, dest: NodeId, rounding: Rounding, values: &mut [Grain])
+fn take_back(arc: &Arc, scale: Scale, dest: NodeId, bound: Bound, values: &mut [Grain])
     requires budgets { length values.old ≤ BUDGET_LIMIT + 1 }
     requires rises { IsTime arc.now.time }
     requires total { total arc.now.time ≤ scale }
     requires whole { (u : ℕ) → u < length values.old → slice_index values.old u ≤ ONE }
     ensures value { (net : Net) (u : ℕ) → net.scale ≡ scale → u < length values.old
-        → slice_index values.new u ≡ value_before (round_by rounding) net dest arc.now
+        → slice_index values.new u ≡ value_before (rounded_in bound) net dest arc.now
         (λ x. slice_index values.old x) u }
     ensures length { length values.new ≡ length values.old }
 {
     if arc.tail == dest {
         values.fill(Grain::ONE);
     } else {
-        weigh(&arc.time, scale, rounding, values);
+        weigh(&arc.time, scale, bound, values);
     }
 }
 
@@ -128,13 +128,13 @@ const PART: usize = 64;
 
 /// Makes the value at each budget the rounded sum of a time over the values before. A sum reads
 /// only smaller budgets, so it goes from the last budget to the first.
-fn weigh(time: &Histogram, scale: Scale, rounding: Rounding, values: &mut [Grain])
+fn weigh(time: &Histogram, scale: Scale, bound: Bound, values: &mut [Grain])
     requires budgets { length values.old ≤ BUDGET_LIMIT + 1 }
     requires rises { IsTime time.now }
     requires total { total time.now ≤ scale }
     requires whole { (u : ℕ) → u < length values.old → slice_index values.old u ≤ ONE }
     ensures value { (u : ℕ) → u < length values.old → slice_index values.new u
-        ≡ round_by rounding scale (weighed (λ x. slice_index values.old x) u time.now) }
+        ≡ rounded_in bound scale (weighed (λ x. slice_index values.old x) u time.now) }
     ensures length { length values.new ≡ length values.old }
 {
     sums_of_values();
@@ -143,7 +143,7 @@ fn weigh(time: &Histogram, scale: Scale, rounding: Rounding, values: &mut [Grain
     while end > 0 {
         let count = end.min(PART);
         end -= count;
-        weigh_part(time, scale, rounding, end, &mut sums[..count], values);
+        weigh_part(time, scale, bound, end, &mut sums[..count], values);
     }
 }
 
@@ -151,7 +151,7 @@ fn weigh(time: &Histogram, scale: Scale, rounding: Rounding, values: &mut [Grain
 fn weigh_part(
     time: &Histogram,
     scale: Scale,
-    rounding: Rounding,
+    bound: Bound,
     from: usize,
     sums: &mut [u128],
     values: &mut [Grain],
@@ -162,7 +162,7 @@ fn weigh_part(
     requires total { total time.now ≤ scale }
     requires whole { (u : ℕ) → u < from + length sums.old → slice_index values.old u ≤ ONE }
     ensures value { (x : ℕ) → x < length sums.old → slice_index values.new (from + x)
-        ≡ round_by rounding scale (weighed (λ u. slice_index values.old u) (from + x) time.now) }
+        ≡ rounded_in bound scale (weighed (λ u. slice_index values.old u) (from + x) time.now) }
     ensures before { (u : ℕ) → u < from → slice_index values.new u ≡ slice_index values.old u }
     ensures after { (u : ℕ) → from + length sums.old ≤ u
         → slice_index values.new u ≡ slice_index values.old u }
@@ -171,5 +171,5 @@ fn weigh_part(
     sums_of_values();
     let end = from + sums.len();
     arc_sums(time, values, 0, from as u32, sums);
-    round(sums, scale, rounding, &mut values[from..end]);
+    round(sums, scale, bound, &mut values[from..end]);
 }

@@ -1,3 +1,3 @@
+pub mod Bounds
 pub mod Laws
-pub mod Rounded
 pub mod Rows

@@ -3,7 +3,7 @@ use Rattle.std.proofs.lemmas.List.{drop_more}
 use Rattle.std.proofs.Math.Seq.{drop-length}
 use Rattle.sota_network.specs.Network.{IsArc, arc_at}
 use Rattle.sota_network.specs.declared.network.Arc.{Arc}
-use Rattle.sota_sums.specs.Rounded.{round_by}
+use Rattle.sota_sums.specs.Bounds.{rounded_in}
 use Rattle.sota_route.specs.Bounds.{route_value}
 use Rattle.sota_route.proofs.Values.{value-end, value-whole, value-back}
 use Rattle.sota_route.proofs.bracket.take_all_back.Goals as goal
@@ -12,7 +12,7 @@ pub loop-left-init : goal.loop-left-init
 loop-left-init c = record {
   length_is = refl;
   within = omega arith;
-  values = λ u less. c.requires.ones u less ∙ sym (rw drop-length (value-end (round_by c.args.rounding) c.args.network.now c.args.dest u));
+  values = λ u less. c.requires.ones u less ∙ sym (rw drop-length (value-end (rounded_in c.args.bound) c.args.network.now c.args.dest u));
 }
 
 pub take_back-requires-clause-whole : goal.take_back-requires-clause-whole
@@ -20,7 +20,7 @@ take_back-requires-clause-whole c = λ u less.
     let arcs : (e : ℕ) (arc : Arc) → arc_at c.args.network.now e ≡ Some arc → IsArc c.args.network.now arc =
     λ e arc is. c.arcs_by_number.ensures c.args.network.now e arc c.scale-scale.ensures.valid is in
     rw (c.loop-left.invariant.values u (omega (arith, c.loop-left.invariant.length_is)))
-    (value-whole c.sums_of_values.ensures c.args.network.now c.scale-scale.ensures.valid.scale c.args.dest arcs c.args.rounding (drop c.loop-left.left c.args.route.now) u)
+    (value-whole c.sums_of_values.ensures c.args.network.now c.scale-scale.ensures.valid.scale c.args.dest arcs c.args.bound (drop c.loop-left.left c.args.route.now) u)
 
 pub loop-left-preserved : goal.loop-left-preserved
 loop-left-preserved c =
@@ -38,6 +38,6 @@ loop-left-preserved c =
       within = omega (arith, c.loop-left.invariant.within);
       values = λ u less.
           c.take_back.ensures.value c.args.network.now u (sym c.scale-scale.ensures.value) (omega (arith, c.loop-left.invariant.length_is))
-          ∙ value-back c.sums_of_values.ensures c.args.network.now c.scale-scale.ensures.valid.scale c.args.dest arcs (round_by c.args.rounding) e rest c.numbered-arc.result.now (λ x. slice_index c.loop-left.values x) u c.numbered-arc.ensures.value (λ v under. c.loop-left.invariant.values v (omega arith))
-          ∙ ap (λ (route : List ℕ). route_value (round_by c.args.rounding) c.args.network.now c.args.dest route u) (sym whole);
+          ∙ value-back c.sums_of_values.ensures c.args.network.now c.scale-scale.ensures.valid.scale c.args.dest arcs (rounded_in c.args.bound) e rest c.numbered-arc.result.now (λ x. slice_index c.loop-left.values x) u c.numbered-arc.ensures.value (λ v under. c.loop-left.invariant.values v (omega arith))
+          ∙ ap (λ (route : List ℕ). route_value (rounded_in c.args.bound) c.args.network.now c.args.dest route u) (sym whole);
     }

@@ -1,6 +1,6 @@
 use Rattle.std.proofs.Common.{◌+◌, ◌<◌, length, ◌∙◌, ap, arith}
 use Rattle.std.proofs.lemmas.Grind.{common_steps}
-use Rattle.sota_sums.specs.Rounded.{round_by}
+use Rattle.sota_sums.specs.Bounds.{rounded_in}
 use Rattle.sota_route.proofs.Weighing.{plain-sum, plain-small}
 use Rattle.sota_route.proofs.bracket.weigh_part.Goals as goal
 
@@ -14,5 +14,5 @@ pub returns-clause-value : goal.returns-clause-value
 returns-clause-value c = λ x less.
     let inside : x < length c.arc_sums.new.into = omega (arith, c.arc_sums.ensures.room) in
     let is = c.arc_sums.ensures.sums x less ∙ plain-sum c.sums_of_values.ensures c.args.values.now (c.args.from + x) c.args.time.now c.requires.rises in
-    let value = c.round.ensures.value x inside ∙ ap (round_by c.args.rounding c.args.scale) is in
+    let value = c.round.ensures.values x inside ∙ ap (rounded_in c.args.bound c.args.scale) is in
     grind (arith, common_steps, value, c.round.ensures.room, c.arc_sums.ensures.room, c.requires.room)
