@@ -9,8 +9,8 @@ use Rattle.sota_network.specs.Network.{Net}
 use Rattle.sota_network.specs.declared.network.Arc.{Arc}
 use Rattle.sota_kept.specs.Ticks.{least_to}
 use Rattle.sota_kept.specs.NodeTables.{NodeTable}
-use Rattle.sota_fill.specs.declared.part.Bound.{Bound}
-use Rattle.sota_fill.specs.declared.part.Bound.TheVariants.{Lower, Upper}
+use Rattle.sota_sums.specs.declared.bound.Bound.{Bound}
+use Rattle.sota_sums.specs.declared.bound.Bound.TheVariants.{Lower, Upper}
 use Rattle.sota_fill.specs.Bounds.{summer_in, grid_in, value_in}
 use Rattle.sota_fill.specs.Fills.{ReadsAs}
 use Rattle.sota_fill.specs.Fed.{IsFed, AreFed, Reaches, AllFed, SummersList}

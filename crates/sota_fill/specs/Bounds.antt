@@ -1,13 +1,12 @@
--- What stands for each of the two bounds: rows and summers, values of the grid, and the rounding
--- outwards.
+-- What stands for each of the two bounds: rows, values of the grid, and summers.
 use Rattle.std.specs.Prelude.{ℕ, ◌-◌, ◌==◌, nat_lt, List, slice_index, if◌then◌else◌}
-use Rattle.sota_units.specs.Rounding.{ONE, floor_by, ceiling_by}
+use Rattle.sota_units.specs.Rounding.{ONE}
 use Rattle.sota_network.specs.Network.{Net}
 use Rattle.sota_network.specs.Grid.{lo, hi}
 use Rattle.sota_kept.specs.NodeTables.{NodeTable}
 use Rattle.sota_fill.specs.declared.broad.Summers.{Summers}
-use Rattle.sota_fill.specs.declared.part.Bound.{Bound}
-use Rattle.sota_fill.specs.declared.part.Bound.TheVariants.{Lower, Upper}
+use Rattle.sota_sums.specs.declared.bound.Bound.{Bound}
+use Rattle.sota_sums.specs.declared.bound.Bound.TheVariants.{Lower, Upper}
 
 abbrev pub row_in : Bound → NodeTable → List ℕ
 row_in Lower s = s.lower
@@ -27,7 +26,3 @@ grid_in Upper net dest i t = hi net dest i t
 abbrev pub summer_in : {Z : Type 0} → Bound → Summers Z → Z
 summer_in Lower two = two.lower
 summer_in Upper two = two.upper
-
-abbrev pub rounded_in : Bound → ℕ → ℕ → ℕ
-rounded_in Lower scale sum = floor_by scale sum
-rounded_in Upper scale sum = ceiling_by scale sum

@@ -2,4 +2,3 @@ pub mod Bounds
 pub mod Fed
 pub mod Fills
 pub mod Laws
-pub mod Rows

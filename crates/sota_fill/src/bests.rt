@@ -13,12 +13,12 @@ ghost use Rattle.sota_fill.specs.Fills.{ReadsAs, ReadsGrid};
 ghost use Rattle.sota_fill.specs.declared.broad.Summers.{Summers};
 
 use crate::broad::{Summers, broad_sums, summers_of};
-use crate::part::{Bound, Part, choose, raise};
-use crate::sums::{arc_sums, certain_sums};
+use crate::part::{Part, choose, raise};
 use crate::target::Target;
 use sota_network::Arc;
 use sota_network::laws::numbers_of_arcs;
 use sota_online::Summer;
+use sota_sums::{Bound, arc_sums, certain_sums};
 use sota_tables::Tables;
 use sota_units::{ArcId, Grain, NodeId};
 

@@ -7,8 +7,8 @@ ghost use Rattle.std.specs.Option.{option_copied};
 ghost use Rattle.sota_fill.specs.Bounds.{summer_in};
 ghost use Rattle.sota_fill.specs.Fed.{IsFed, summers_at};
 
-use crate::part::Bound;
 use sota_online::Summer;
+use sota_sums::Bound;
 use sota_units::ArcId;
 
 /// The two summers of a broad arc. One is fed the lower values at its head, the other the upper
@@ -45,23 +45,8 @@ pub(crate) fn summers_of<'a, Z: Summer>(
     }
 }
 
-/// The sum of an arc at a budget, where the summer was fed the values at its head from a base on,
-/// and these are 0 below it.
-fn broad_sum<Z: Summer>(summer: &Z, least: u32, base: u32, budget: u32) -> u128
-    requires limit { budget < END_LIMIT }
-    requires known { budget < least + base + length (Z.state summer.now).values }
-    ensures { (time : List (ℕ × ℕ)) (f : ℕ → ℕ) → IsTime time → least_tick time ≡ least
-        → IsFed (Z.state summer.now) time base f → result ≡ weighed f budget time }
-{
-    let first = u64::from(least) + u64::from(base);
-    if u64::from(budget) < first {
-        return 0;
-    }
-    let position = (u64::from(budget) - first) as u32 + 1;
-    summer.sum(position).get()
-}
-
-/// The same at budgets in a row, from `from` on.
+/// The sums of an arc at budgets in a row, from `from` on, where the summer was fed the values at
+/// its head from a base on, and these are 0 below it.
 pub(crate) fn broad_sums<Z: Summer>(summer: &Z, least: u32, base: u32, from: u32, into: &mut [u128])
     requires limit { from + length into.old ≤ END_LIMIT }
     requires known { from + length into.old
@@ -71,7 +56,12 @@ pub(crate) fn broad_sums<Z: Summer>(summer: &Z, least: u32, base: u32, from: u32
         → slice_index into.new x ≡ weighed f (from + x) time }
     ensures room { length into.new ≡ length into.old }
 {
-    for place in 0..into.len() {
-        into[place] = broad_sum(summer, least, base, from + place as u32);
+    let from = u64::from(from);
+    let first = u64::from(least) + u64::from(base);
+    let early = first.saturating_sub(from).min(into.len() as u64);
+    into[..early as usize].fill(0);
+    if (early as usize) < into.len() {
+        let position = (from + early - first) as u32 + 1;
+        summer.sums(position, &mut into[early as usize..]);
     }
 }

@@ -6,7 +6,6 @@ mod broad;
 mod fill;
 pub mod laws;
 mod part;
-mod sums;
 mod target;
 
 pub use broad::Summers;

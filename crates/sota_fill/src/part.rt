@@ -1,18 +1,9 @@
 // What is found for a node at budgets in a row.
-ghost use Rattle.std.specs.Prelude.{ℕ, ◌≡◌, ◌*◌, ◌<◌, ◌≤◌, max, nat_lt, length};
+ghost use Rattle.std.specs.Prelude.{ℕ, ◌≡◌, ◌<◌, ◌≤◌, max, nat_lt, length};
 ghost use Rattle.std.specs.Prelude.{slice_index, slice_index_or, None, Some, if◌then◌else◌};
-ghost use Rattle.sota_units.specs.Rounding.{ONE};
-ghost use Rattle.sota_fill.specs.Bounds.{rounded_in};
 
 use sota_network::Choice;
-use sota_units::{ArcId, Grain, Heft, Scale};
-
-/// The two bounds of a probability.
-#[derive(Clone, Copy)]
-pub(crate) enum Bound {
-    Lower,
-    Upper,
-}
+use sota_units::{ArcId, Grain};
 
 /// At how many budgets the sums of a node are made together.
 pub(crate) const PART: usize = 64;
@@ -96,34 +87,5 @@ pub(crate) fn choose(
             bests[place] = sums[place];
             choices[place] = Choice::new(arc);
         }
-    }
-}
-
-/// A sum over the scale, rounded outwards. Where all mass is certain no division is needed.
-fn rounded(sum: u128, scale: Scale, bound: Bound) -> Grain
-    requires { sum ≤ scale * ONE }
-    ensures { result ≡ rounded_in bound scale sum }
-{
-    if sum >= u128::from(scale.get()) * u128::from(Grain::ONE.get()) {
-        return Grain::ONE;
-    }
-    match (Heft::new(sum), bound) {
-        (Some(heft), Bound::Lower) => heft.down(scale),
-        (Some(heft), Bound::Upper) => heft.up(scale),
-        (None, _) => Grain::ZERO,
-    }
-}
-
-/// The first sums over the scale, rounded outwards.
-pub(crate) fn round(sums: &[u128], scale: Scale, bound: Bound, into: &mut [Grain], count: usize)
-    requires sums_room { count ≤ length sums.now }
-    requires room { count ≤ length into.old }
-    requires small { (x : ℕ) → x < count → slice_index sums.now x ≤ scale * ONE }
-    ensures values { (x : ℕ) → x < count
-        → slice_index into.new x ≡ rounded_in bound scale (slice_index sums.now x) }
-    ensures room { length into.new ≡ length into.old }
-{
-    for place in 0..count {
-        into[place] = rounded(sums[place], scale, bound);
     }
 }

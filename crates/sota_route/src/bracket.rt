@@ -171,5 +171,5 @@ fn weigh_part(
     sums_of_values();
     let end = from + sums.len();
     arc_sums(time, values, 0, from as u32, sums);
-    round(sums, scale, bound, &mut values[from..end]);
+    round(sums, scale, bound, &mut values[from..end], sums.len());
 }

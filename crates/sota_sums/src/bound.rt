@@ -27,15 +27,17 @@ fn rounded(sum: u128, scale: Scale, bound: Bound) -> Grain
     }
 }
 
-/// Sums over the scale, each rounded outwards. No sum is above one whole times the scale.
-pub fn round(sums: &[u128], scale: Scale, bound: Bound, into: &mut [Grain])
-    requires room { length into.old ≡ length sums.now }
-    requires small { (x : ℕ) → x < length sums.now → slice_index sums.now x ≤ scale * ONE }
-    ensures values { (x : ℕ) → x < length sums.now
+/// The first sums over the scale, each rounded outwards. None of them is above one whole times the
+/// scale.
+pub fn round(sums: &[u128], scale: Scale, bound: Bound, into: &mut [Grain], count: usize)
+    requires sums_room { count ≤ length sums.now }
+    requires room { count ≤ length into.old }
+    requires small { (x : ℕ) → x < count → slice_index sums.now x ≤ scale * ONE }
+    ensures values { (x : ℕ) → x < count
         → slice_index into.new x ≡ rounded_in bound scale (slice_index sums.now x) }
-    ensures room { length into.new ≡ length sums.now }
+    ensures room { length into.new ≡ length into.old }
 {
-    for place in 0..sums.len() {
+    for place in 0..count {
         into[place] = rounded(sums[place], scale, bound);
     }
 }
