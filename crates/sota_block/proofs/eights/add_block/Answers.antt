@@ -11,32 +11,16 @@ add_eights-requires-clause-zeros_after c = λ i from. zeros_after c.pad.new.padd
 
 pub add_eights-requires-clause-low_fits : goal.add_eights-requires-clause-low_fits
 add_eights-requires-clause-low_fits c = λ k below.
-    omega (
-      arith,
-      padded_is low_half c.args.masses.now c.pad.new.padded c.args.values.now k refl c.requires.within (long c.args.padded.now _ _ c.requires.padded_room (omega arith)) c.pad.ensures.before c.pad.ensures.inside c.pad.ensures.after,
-      c.requires.low_fits k below,
-    )
+    omega (arith, padded_is low_half c.args.masses.now c.pad.new.padded c.args.values.now k refl c.requires.within (long c.args.padded.now _ _ c.requires.padded_room (omega arith)) c.pad.ensures.before c.pad.ensures.inside c.pad.ensures.after, c.requires.low_fits k below)
 
 pub add_eights-requires-clause-high_fits : goal.add_eights-requires-clause-high_fits
 add_eights-requires-clause-high_fits c = λ k below.
-    omega (
-      arith,
-      padded_is high_half c.args.masses.now c.pad.new.padded c.args.values.now k refl c.requires.within (long c.args.padded.now _ _ c.requires.padded_room (omega arith)) c.pad.ensures.before c.pad.ensures.inside c.pad.ensures.after,
-      c.requires.high_fits k below,
-    )
+    omega (arith, padded_is high_half c.args.masses.now c.pad.new.padded c.args.values.now k refl c.requires.within (long c.args.padded.now _ _ c.requires.padded_room (omega arith)) c.pad.ensures.before c.pad.ensures.inside c.pad.ensures.after, c.requires.high_fits k below)
 
 pub returns-clause-low : goal.returns-clause-low
 returns-clause-low c = λ k below.
-    omega (
-      arith,
-      padded_is low_half c.args.masses.now c.pad.new.padded c.args.values.now k refl c.requires.within (long c.args.padded.now _ _ c.requires.padded_room (omega arith)) c.pad.ensures.before c.pad.ensures.inside c.pad.ensures.after,
-      c.add_eights.ensures.low k below,
-    )
+    omega (arith, padded_is low_half c.args.masses.now c.pad.new.padded c.args.values.now k refl c.requires.within (long c.args.padded.now _ _ c.requires.padded_room (omega arith)) c.pad.ensures.before c.pad.ensures.inside c.pad.ensures.after, c.add_eights.ensures.low k below)
 
 pub returns-clause-high : goal.returns-clause-high
 returns-clause-high c = λ k below.
-    omega (
-      arith,
-      padded_is high_half c.args.masses.now c.pad.new.padded c.args.values.now k refl c.requires.within (long c.args.padded.now _ _ c.requires.padded_room (omega arith)) c.pad.ensures.before c.pad.ensures.inside c.pad.ensures.after,
-      c.add_eights.ensures.high k below,
-    )
+    omega (arith, padded_is high_half c.args.masses.now c.pad.new.padded c.args.values.now k refl c.requires.within (long c.args.padded.now _ _ c.requires.padded_room (omega arith)) c.pad.ensures.before c.pad.ensures.inside c.pad.ensures.after, c.add_eights.ensures.high k below)
