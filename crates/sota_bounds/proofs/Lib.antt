@@ -4,4 +4,5 @@ pub mod Settled
 pub mod Queued
 pub mod Earliest
 pub mod Spans
+pub mod Adding
 pub mod Counted

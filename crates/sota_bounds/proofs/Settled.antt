@@ -154,6 +154,15 @@ module _ (net : Net) (arcs : HasArcs net) (dest : ℕ) (direction : Direction) (
       (λ (apart : i ≡ visit.node → ⊥). is.least i n node (sym (elsewhere i node apart) ∙ at))
       (cases_eq i visit.node)
 
+  new-few : (i n : ℕ) → IsNode net i → time_at new_times i ≡ Some n → n ≤ settled new_times * TICK_LIMIT
+  new-few i n node at =
+      ⊎_elim
+      (λ (same : i ≡ visit.node).
+      let time : visit.time.0 ≡ n = some-same visit.time.0 n (sym here ∙ ap (time_at new_times) (sym same) ∙ at) in
+      omega (arith, waited.soon, one-more))
+      (λ (apart : i ≡ visit.node → ⊥). omega (arith, is.few i n node (sym (elsewhere i node apart) ∙ at), one-more))
+      (cases_eq i visit.node)
+
   new-closed : (e : ℕ) (arc : Arc) (n : ℕ) → arc_at net e ≡ Some arc → IsUsable dest arc → time_at new_times (start_of direction arc) ≡ Some n
       → IsSettled new_times (end_of direction arc) ⊎ Waits queue (end_of direction arc) (n + least_tick arc.time)
   new-closed e arc n number usable at =
@@ -183,6 +192,7 @@ module _ (net : Net) (arcs : HasArcs net) (dest : ℕ) (direction : Direction) (
     count = same-count ∙ is.count;
     waits = new-waits;
     least = new-least;
+    few = new-few;
     first = goes-on source 0 at_source is.first;
     closed = new-closed;
   }

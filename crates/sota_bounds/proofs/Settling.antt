@@ -1,10 +1,10 @@
 -- Dijkstra's search: what is settled is least.
-use Rattle.std.proofs.Common.{ℕ, ◌≡◌, ◌≢◌, ◌+◌, ◌-◌, ◌*◌, ◌<◌, ◌≤◌, Bool, true, false, not, cond, List, [], ◌∷◌, length, get_or, set, Option, None, Some, refl, sym, ◌∙◌, ap, subst, arith, inl, inr, ◌⊎◌, ⊎_elim}
+use Rattle.std.proofs.Common.{ℕ, ◌≡◌, ◌≢◌, ◌+◌, ◌-◌, ◌*◌, ◌<◌, ◌≤◌, Bool, true, false, not, cond, List, [], ◌∷◌, length, get_or, set, Option, None, Some, IfSome, refl, sym, ◌∙◌, ap, subst, arith, inl, inr, ◌⊎◌, ⊎_elim}
 use Rattle.std.specs.List.{All, Contains, count_by}
 use Rattle.std.specs.Option.{is_some}
 use Rattle.std.specs.List.Sorted.{IsPermutation}
 use Rattle.std.proofs.lemmas.List.{get_or-set_same, get_or-set_other, get_or_default}
-use Rattle.std.proofs.lemmas.List.Sums.{sum_by-set}
+use Rattle.std.proofs.lemmas.List.Sums.{sum_by-set, count_by-le-length}
 use Rattle.std.proofs.lemmas.List.Elements.{All-contains, All-nil, All-head, All-tail, All-cons, Contains-push}
 use Rattle.std.proofs.lemmas.List.Sorted.{All-permutation, Contains-permutation}
 use Rattle.std.proofs.lemmas.Option.{none-some}
@@ -12,8 +12,8 @@ use Rattle.std.proofs.lemmas.Bool.{true≢false}
 use Rattle.sota_hist.specs.Time.{least_tick}
 use Rattle.sota_network.specs.Network.{Net, IsNode, arc_at}
 use Rattle.sota_network.specs.declared.network.Arc.{Arc}
-use Rattle.sota_units.specs.Limits.{TICK_LIMIT}
-use Rattle.sota_bounds.specs.Search.{start_of, end_of, time_at, IsLeastBetween}
+use Rattle.sota_units.specs.Limits.{NODE_LIMIT, TICK_LIMIT}
+use Rattle.sota_bounds.specs.Search.{start_of, end_of, time_at, IsLeastBetween, TIME_LIMIT}
 use Rattle.sota_bounds.specs.declared.search.Direction.{Direction}
 use Rattle.sota_bounds.specs.declared.search.Visit.{Visit}
 use Rattle.sota_bounds.proofs.Queued.{in-cons}
@@ -43,6 +43,7 @@ pub record IsSearch (net : Net) (dest : ℕ) (direction : Direction) (source : �
   pub count : length times ≡ net.nodes
   pub waits : All (IsWait net dest direction source (settled times)) queue
   pub least : (i n : ℕ) → IsNode net i → time_at times i ≡ Some n → IsLeastJoin net dest direction source i n
+  pub few : (i n : ℕ) → IsNode net i → time_at times i ≡ Some n → n ≤ settled times * TICK_LIMIT
   pub first : IsSettled times source ⊎ Waits queue source 0
   pub closed : (e : ℕ) (arc : Arc) (n : ℕ) → arc_at net e ≡ Some arc → IsUsable dest arc → time_at times (start_of direction arc) ≡ Some n
       → IsSettled times (end_of direction arc) ⊎ Waits queue (end_of direction arc) (n + least_tick arc.time)
@@ -168,6 +169,7 @@ module _ (net : Net) (arcs : HasArcs net) (dest : ℕ) (direction : Direction) (
           count = is.count;
           waits = All-tail (IsWait net dest direction source (settled times)) visit rest (All-permutation (IsWait net dest direction source (settled times)) queue (visit ∷ rest) moved is.waits);
           least = is.least;
+          few = is.few;
           first = ⊎_elim (λ (s : IsSettled times source). inl s) (λ (w : Waits queue source 0). goes_on source 0 w) is.first;
           closed = λ e arc n number usable here.
               ⊎_elim (λ (s : IsSettled times (end_of direction arc)). inl s) (λ (w : Waits queue (end_of direction arc) (n + least_tick arc.time)). goes_on (end_of direction arc) (n + least_tick arc.time) w)
@@ -187,6 +189,23 @@ module _ (net : Net) (arcs : HasArcs net) (dest : ℕ) (direction : Direction) (
         waits = All-permutation (IsWait net dest direction source (settled times)) (visit ∷ []) queue moved
             (All-cons (IsWait net dest direction source (settled times)) visit [] (record { node = node; walk = walk; soon = soon }) (All-nil (IsWait net dest direction source (settled times))));
         least = λ i n node here. absurd (unsettled i n node here);
+        few = λ i n node here. absurd (unsettled i n node here);
         first = inr (visit, Contains-permutation (visit ∷ []) queue visit moved (Contains-push [] visit), at, time);
         closed = λ e arc n number usable here. absurd (unsettled (start_of direction arc) n (start-valid net direction arc (arcs.valid e arc number)) here);
       }
+
+-- ---- the settled times have a bound, since there are few nodes
+some-few : (found : Option ℕ) (limit : ℕ) → ((n : ℕ) → found ≡ Some n → n ≤ limit) → IfSome found (λ n. n ≤ limit)
+some-few None limit few = record {}
+some-few (Some n) limit few = few n refl
+
+pub all-few : (net : Net) (dest : ℕ) (direction : Direction) (source : ℕ) (times : List (Option ℕ)) (queue : List Visit) → IsSearch net dest direction source times queue → net.nodes ≤ NODE_LIMIT
+    → All (λ (time : Option ℕ). IfSome time (λ n. n ≤ TIME_LIMIT)) times
+all-few net dest direction source times queue is small k d h =
+    let most : settled times ≤ length times = count_by-le-length (λ (time : Option ℕ). is_some time) times in
+    some-few (get_or times k d) TIME_LIMIT
+    (λ n at.
+    let place : k + 1 - 1 ≡ k = omega arith in
+    let node : IsNode net (k + 1) = (let low : 1 ≤ k + 1 = omega arith in low, let high : k + 1 ≤ net.nodes = omega (arith, is.count) in high) in
+    let here : time_at times (k + 1) ≡ Some n = ap (λ (j : ℕ). get_or times j None) place ∙ get_or_default times k None d h ∙ at in
+    omega (arith, is.few (k + 1) n node here, most, is.count))

@@ -2,3 +2,4 @@ pub mod Search
 pub mod Faults
 pub mod Cells
 pub mod Regions
+pub mod Affected

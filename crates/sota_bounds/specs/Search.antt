@@ -1,10 +1,11 @@
 -- What a search for least times has found, in either direction.
-use Rattle.std.specs.Prelude.{ℕ, ◌-◌, ◌+◌, ◌==◌, ◌||◌, List, slice_index_or}
+use Rattle.std.specs.Prelude.{ℕ, ◌-◌, ◌+◌, ◌*◌, ◌==◌, ◌||◌, List, slice_index_or}
 use Rattle.std.specs.Prelude.{Option, None, Some, if◌then◌else◌}
 use Rattle.std.specs.List.{filter_map}
 use Rattle.std.specs.Option.{is_some, option_and_then}
 use Rattle.std.specs.Ordering.{nat_cmp, ordering_then}
 use Rattle.std.specs.declared.cmp.Ordering.{Ordering}
+use Rattle.sota_units.specs.Limits.{NODE_LIMIT, TICK_LIMIT}
 use Rattle.sota_hist.specs.Time.{is_closed, least_tick}
 use Rattle.sota_network.specs.Network.{Net, arc_at}
 use Rattle.sota_network.specs.Numbers.{numbers}
@@ -31,6 +32,11 @@ arcs_at direction net node = numbers (λ arc. start_of direction arc == node) 1 
 -- the time that is settled for node i
 abbrev pub time_at : List (Option ℕ) → ℕ → Option ℕ
 time_at times i = slice_index_or times (i - 1) None
+
+-- no least time is more: a walk of that time comes to no node twice, so it has fewer arcs than there
+-- are nodes
+abbrev pub TIME_LIMIT : ℕ
+TIME_LIMIT = NODE_LIMIT * TICK_LIMIT
 
 -- the visit one arc further
 abbrev pub further : Direction → Visit → Arc → Visit

@@ -3,7 +3,7 @@ ghost use Rattle.std.specs.Prelude.{◌≡◌, ◌≤◌, IfOk, IfErr, OnOk, Non
 ghost use Rattle.sota_units.specs.Limits.{BUDGET_LIMIT};
 ghost use Rattle.sota_units.specs.Memory.{IsFault};
 ghost use Rattle.sota_network.specs.Network.{IsNode};
-ghost use Rattle.sota_bounds.specs.Faults.{region_fault, is_shortage};
+ghost use Rattle.sota_bounds.specs.Faults.{region_fault, is_shortage, TABLE_LIMIT, BROAD_LIMIT};
 ghost use Rattle.sota_bounds.specs.Regions.{IsRegion};
 
 use crate::RegionFault;
@@ -54,6 +54,8 @@ pub fn region(
     requires dest { IsNode network.now dest }
     requires budget { budget ≤ BUDGET_LIMIT }
     ensures made { IfOk result (λ made. IsRegion made network.now origin dest budget) }
+    ensures within { IfOk result (λ made.
+        (made.table_cells ≤ TABLE_LIMIT) × (made.broad_cells ≤ BROAD_LIMIT)) }
     ensures ok { OnOk result (region_fault network.now origin dest budget ≡ None) }
     ensures fault { IfErr result (λ fault.
         IsFault is_shortage (region_fault network.now origin dest budget) fault) }

@@ -1,7 +1,10 @@
 // Least times to a node and from a node.
-ghost use Rattle.std.specs.Prelude.{ℕ, ◌≡◌, ◌-◌, length, slice_index_or, IfOk, None};
+ghost use Rattle.std.specs.Prelude.{ℕ, ◌≡◌, ◌-◌, ◌≤◌, length, slice_index_or, IfOk, IfSome};
+ghost use Rattle.std.specs.Prelude.{None};
+ghost use Rattle.std.specs.List.{All};
 ghost use Rattle.sota_network.specs.Network.{IsNode};
 ghost use Rattle.sota_network.specs.Walks.{IsLeastTime};
+ghost use Rattle.sota_bounds.specs.Search.{TIME_LIMIT};
 
 use crate::search::{Direction, least_times};
 use sota_network::Network;
@@ -20,6 +23,8 @@ pub fn least_to(
     ensures nodes { IfOk result (λ times. length times.items ≡ network.now.nodes) }
     ensures least { IfOk result (λ times. (i : ℕ) → IsNode network.now i
         → IsLeastTime network.now dest i dest (slice_index_or times.items (i - 1) None)) }
+    ensures within { IfOk result (λ times.
+        All (λ time. IfSome time (λ n. n ≤ TIME_LIMIT)) times.items) }
 {
     least_times(alloc, network, Direction::Against, dest, dest)
 }
@@ -37,6 +42,8 @@ pub fn least_from(
     ensures nodes { IfOk result (λ times. length times.items ≡ network.now.nodes) }
     ensures least { IfOk result (λ times. (i : ℕ) → IsNode network.now i
         → IsLeastTime network.now dest origin i (slice_index_or times.items (i - 1) None)) }
+    ensures within { IfOk result (λ times.
+        All (λ time. IfSome time (λ n. n ≤ TIME_LIMIT)) times.items) }
 {
     least_times(alloc, network, Direction::Along, origin, dest)
 }

@@ -1,14 +1,16 @@
-//! Least times in a road network, and the region of an ask: the nodes and budgets that can matter
-//! to it.
+//! Least times in a road network; the region of an ask, which is the nodes and budgets that can
+//! matter to it; and from which budgets on an edit can matter.
 #![tactic(auto)]
 
 mod ask;
 mod cells;
+mod edits;
 mod fault;
 mod least;
 mod search;
 
 pub use ask::{AskRegion, region};
+pub use edits::affected;
 pub use fault::RegionFault;
 pub use least::{least_from, least_to};
 

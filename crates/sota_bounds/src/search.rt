@@ -4,10 +4,11 @@ ghost use Rattle.std.specs.Prelude.{IfOk, IfSome, OnOk};
 ghost use Rattle.std.specs.List.{All};
 ghost use Rattle.std.specs.List.Sorted.{IsPermutation};
 ghost use Rattle.std.specs.BinaryHeap.{heap_items, IsHeap};
-ghost use Rattle.sota_units.specs.Limits.{TICK_LIMIT};
+ghost use Rattle.sota_units.specs.Limits.{NODE_LIMIT, TICK_LIMIT};
 ghost use Rattle.sota_network.specs.Network.{IsNode};
 ghost use Rattle.sota_bounds.specs.Search.{end_of, arcs_at, time_at, next_visit, next_visits};
 ghost use Rattle.sota_bounds.specs.Search.{by_time, IsLeastBetween};
+ghost use Rattle.sota_bounds.specs.Search.{TIME_LIMIT};
 
 use sota_network::laws::{arcs_by_number, numbers_of_arcs};
 use sota_network::{Arc, Network};
@@ -46,6 +47,9 @@ pub(crate) fn least_times(
     ensures nodes { IfOk result (λ times. length times.items ≡ network.now.nodes) }
     ensures least { IfOk result (λ times. (i : ℕ) → IsNode network.now i
         → IsLeastBetween network.now dest direction source i (time_at times.items i)) }
+    ensures few { IfOk result (λ times. length times.items ≤ NODE_LIMIT) }
+    ensures within { IfOk result (λ times.
+        All (λ time. IfSome time (λ n. n ≤ TIME_LIMIT)) times.items) }
 {
     arcs_by_number();
     numbers_of_arcs();

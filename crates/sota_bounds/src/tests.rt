@@ -1,16 +1,17 @@
 // Each call once with ample memory, on small networks.
-ghost use Rattle.std.specs.Prelude.{◌≡◌, ◌≤◌, ◌∷◌, [], IfOk};
+ghost use Rattle.std.specs.Prelude.{◌≡◌, ◌≤◌, ◌∷◌, [], length, IfOk};
 
-use crate::{AskRegion, RegionFault, least_from, least_to, region};
+use crate::{AskRegion, RegionFault, affected, least_from, least_to, region};
 use sota_hist::Histogram;
 use sota_network::{Arc, Network};
-use sota_units::{Mass, NoMemory, NodeId, Scale, Tick};
+use sota_units::{ArcId, Mass, NoMemory, NodeId, Scale, Tick};
 use std::alloc::Global;
 use std::test::Fail;
 
 /// From 1 to 3 by way of 2 in two ticks, for the straight arc is closed; and from 3 on to 4.
 fn barred_triangle(alloc: Global) -> Result<Network, NoMemory>
-    ensures { IfOk result (λ network. network.nodes ≡ 4) }
+    ensures nodes { IfOk result (λ network. network.nodes ≡ 4) }
+    ensures arcs { IfOk result (λ network. length network.arcs ≡ 4) }
 {
     let mut arcs = Vec::new(alloc);
     arcs.push(Arc::certain(alloc, NodeId(1), NodeId(2), Scale::ONE, Tick(1))?)?;
@@ -32,6 +33,22 @@ fn times_of_a_triangle(rt: HostRuntime) -> Result<(), Fail> {
     assert!(rt; to.as_slice() == [Some(2), Some(1), Some(0), None].as_slice());
     let from = least_from(rt.alloc(), &network, NodeId(1), NodeId(3))?;
     assert!(rt; from.as_slice() == [Some(0), Some(1), Some(2), None].as_slice());
+    Ok(())
+}
+
+// Another time of the closed arc can matter, and one of an arc that leaves the destination cannot.
+#[test]
+fn affected_budgets(rt: HostRuntime) -> Result<(), Fail> {
+    let network = barred_triangle(rt.alloc())?;
+    let edits = [
+        (2, 1, [Some(2), Some(1), None, None]),
+        (4, 3, [Some(3), None, None, None]),
+        (3, 1, [None, None, None, None]),
+    ];
+    for (arc, first, budgets) in edits {
+        let found = affected(rt.alloc(), &network, NodeId(3), ArcId(arc), Tick(first))?;
+        assert!(rt; found.as_slice() == budgets.as_slice());
+    }
     Ok(())
 }
 

@@ -1,3 +1,7 @@
 mod Ranges
 mod Planned
 mod Filed
+mod Growing
+mod Started
+mod Cutting
+mod Results

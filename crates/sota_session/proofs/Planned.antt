@@ -12,14 +12,16 @@ use Rattle.sota_network.specs.Numbers.{listed}
 use Rattle.sota_network.specs.Region.{pairs_at, need}
 use Rattle.sota_bounds.specs.Search.{time_at}
 use Rattle.sota_bounds.specs.Cells.{need_at, pairs_by_need}
+use Rattle.sota_bounds.specs.Regions.{IsRegion}
+use Rattle.sota_bounds.specs.declared.ask.AskRegion.{AskRegion}
+use Rattle.sota_tables.specs.Views.{TablesView}
 use Rattle.sota_polfile.specs.Entry.{IsEntry}
 use Rattle.sota_polfile.specs.Table.{IsHead, IsRowHead, IsTable, row_head, nodes}
 use Rattle.sota_polfile.specs.declared.row.PolicyRow.{PolicyRow}
 use Rattle.sota_check.specs.Planned.{grid_entry, ask_head}
 use Rattle.sota_session.specs.Plans.{row_of, plan_table}
-use Rattle.sota_session.specs.Rows.{IsPlan, Agrees, entry_in, row_from, row_in}
+use Rattle.sota_session.specs.Rows.{IsPlanned, entry_in, row_from, row_in}
 use Rattle.sota_session.specs.declared.ask.Ask.{Ask}
-use Rattle.sota_session.specs.declared.plan.Plan.{Plan}
 
 -- ---- lists over a range
 
@@ -65,97 +67,92 @@ found-rise f here a n =
 -- ---- a row of a plan
 
 -- a row that is made: from the least time to the destination up to below the need
-pub record IsMade (plan : Plan) (i : ℕ) (row : PolicyRow) : Type 0 where
+pub record IsMade (region : AskRegion) (i : ℕ) (row : PolicyRow) : Type 0 where
   pub node : row.node ≡ i
-  pub time : time_at plan.region.least i ≡ Some row.first
-  pub count : row.first + length row.entries ≡ need_at plan.region.need i
+  pub time : time_at region.least i ≡ Some row.first
+  pub count : row.first + length row.entries ≡ need_at region.need i
   pub some : 1 ≤ length row.entries
 
-made-from : (plan : Plan) (i : ℕ) (time : Option ℕ) (row : PolicyRow) → time_at plan.region.least i ≡ time → row_from plan i time ≡ Some row → IsMade plan i row
-made-from plan i None row at is = absurd (cc)
-made-from plan i (Some first) row at is =
+made-from : (region : AskRegion) (tables : TablesView) (i : ℕ) (time : Option ℕ) (row : PolicyRow) → time_at region.least i ≡ time → row_from region tables i time ≡ Some row → IsMade region i row
+made-from region tables i None row at is = absurd (cc)
+made-from region tables i (Some first) row at is =
     ⊎_elim
-    (λ (less : first < need_at plan.region.need i).
-    let entries = map (entry_in plan.grid i) (range_with_len first (need_at plan.region.need i - first)) in
-    let many : length entries ≡ need_at plan.region.need i - first = length-map-range_with_len (entry_in plan.grid i) first (need_at plan.region.need i - first) in
+    (λ (less : first < need_at region.need i).
+    let entries = map (entry_in tables i) (range_with_len first (need_at region.need i - first)) in
+    let many : length entries ≡ need_at region.need i - first = length-map-range_with_len (entry_in tables i) first (need_at region.need i - first) in
     let made : PolicyRow = record { node = i; first = first; entries = entries } in
-    let here : Some made ≡ Some row = (rw (lt-ltb first (need_at plan.region.need i) less) at is) in
+    let here : Some made ≡ Some row = (rw (lt-ltb first (need_at region.need i) less) at is) in
     let same : made ≡ row = cc in
-    subst (IsMade plan i) same (record { node = refl; time = at; count = omega (arith, many, less); some = omega (arith, many, less) }))
-    (λ (past : need_at plan.region.need i ≤ first).
-    let none : None ≡ Some row = (rw (le-ltb first (need_at plan.region.need i) past) at is) in
+    subst (IsMade region i) same (record { node = refl; time = at; count = omega (arith, many, less); some = omega (arith, many, less) }))
+    (λ (past : need_at region.need i ≤ first).
+    let none : None ≡ Some row = (rw (le-ltb first (need_at region.need i) past) at is) in
     absurd (cc))
-    (cases_lt first (need_at plan.region.need i))
+    (cases_lt first (need_at region.need i))
 
-pub row-made : (plan : Plan) (i : ℕ) (row : PolicyRow) → row_in plan i ≡ Some row → IsMade plan i row
-row-made plan i row is = made-from plan i (time_at plan.region.least i) row refl is
+pub row-made : (region : AskRegion) (tables : TablesView) (i : ℕ) (row : PolicyRow) → row_in region tables i ≡ Some row → IsMade region i row
+row-made region tables i row is = made-from region tables i (time_at region.least i) row refl is
 
--- ---- a plan of an ask, and the laws of lists by number and of the region's destination
-pub record IsPlannedFor (net : Net) (ask : Ask) (plan : Plan) : Type 0 where
-  pub made : IsPlan plan net ask
-  pub count : (f : ℕ → ℕ) (n : ℕ) → length (listed f n) ≡ n
+-- ---- what was planned for an ask, and the laws of lists by number and of the region's destination
+pub record IsPlannedFor (net : Net) (ask : Ask) (region : AskRegion) (tables : TablesView) : Type 0 where
+  pub made : IsPlanned region tables net
+  pub asked : (region.origin ≡ ask.origin) × (region.dest ≡ ask.dest) × (region.budget ≡ ask.budget)
   pub entry : (f : ℕ → ℕ) (n i other : ℕ) → 1 ≤ i → i ≤ n → get_or (listed f n) (i - 1) other ≡ f i
   pub dest_pairs : pairs_at net ask.origin ask.dest ask.budget ask.dest ≡ 0
 
-module _ (net : Net) (ask : Ask) (plan : Plan) (is : IsPlannedFor net ask plan) where
+module _ (net : Net) (ask : Ask) (region : AskRegion) (tables : TablesView) (is : IsPlannedFor net ask region tables) where
   abbrev needed : ℕ → ℕ
-  needed i = need_at plan.region.need i
+  needed i = need_at region.need i
 
-  pub plan-agrees : Agrees plan
-  plan-agrees =
-      let region = is.made.region in
-      let grid = is.made.grid in
-      record {
-        least = region.nodes ∙ sym grid.nodes;
-        need = ap length region.need ∙ is.count (need net ask.origin ask.dest ask.budget) net.nodes ∙ sym grid.nodes;
-        within = subst (λ (last : ℕ). All (λ (n : ℕ). n ≤ last + 1) plan.region.need) (sym grid.budget) region.within;
-      }
+  region-is : IsRegion region net ask.origin ask.dest ask.budget
+  region-is = rw (← is.asked.0, ← is.asked.1, ← is.asked.2) is.made.region_is
 
   need-is : (i : ℕ) → IsNode net i → needed i ≡ need net ask.origin ask.dest ask.budget i
   need-is i node =
-      ap (λ (needs : List ℕ). need_at needs i) is.made.region.need
+      ap (λ (needs : List ℕ). need_at needs i) region-is.need
       ∙ is.entry (need net ask.origin ask.dest ask.budget) net.nodes i 0 node.0 node.1
 
   need-within : (i : ℕ) → IsNode net i → needed i ≤ ask.budget + 1
   need-within i node =
-      let few : i - 1 < length plan.region.need = omega (arith, node.0, node.1, plan-agrees.need, is.made.grid.nodes) in
-      is.made.region.within (i - 1) 0 few
+      let few : i - 1 < length region.need = omega (arith, node.0, node.1, is.made.agrees.need, is.made.nodes) in
+      region-is.within (i - 1) 0 few
 
-  entry-is : (i t : ℕ) → IsNode net i → t ≤ ask.budget → entry_in plan.grid i t ≡ grid_entry net ask.dest i t
-  entry-is i t node fits = rw (is.made.grid.choice i t node fits, is.made.grid.lower i t node fits) refl
+  entry-is : (i t : ℕ) → IsNode net i → t < needed i → entry_in tables i t ≡ grid_entry net ask.dest i t
+  entry-is i t node less =
+      let known = is.made.agrees.known i t (node.0, (let high : i ≤ length tables.fronts = omega (arith, node.1, is.made.nodes) in high)) less in
+      rw (is.made.choice_is i t known, is.made.lower i t known, is.asked.1) refl
 
-  row-by : (i : ℕ) → IsNode net i → (time : Option ℕ) → pairs_at net ask.origin ask.dest ask.budget i ≡ pairs_by_need time (needed i) → row_from plan i time ≡ row_of net ask i
+  row-by : (i : ℕ) → IsNode net i → (time : Option ℕ) → pairs_at net ask.origin ask.dest ask.budget i ≡ pairs_by_need time (needed i) → row_from region tables i time ≡ row_of net ask i
   row-by i node None pairs = rw pairs refl
   row-by i node (Some first) pairs =
       ⊎_elim
       (λ (less : first < needed i).
       let first_is : needed i - (needed i - first) ≡ first = omega arith in
       let some : 0 < needed i - first = omega arith in
-      let entries : map (entry_in plan.grid i) (range_with_len first (needed i - first)) ≡ map (grid_entry net ask.dest i) (range_with_len first (needed i - first)) =
-      mapped-same (entry_in plan.grid i) (grid_entry net ask.dest i) first (needed i - first) (λ t low high. entry-is i t node (omega (arith, need-within i node))) in
+      let entries : map (entry_in tables i) (range_with_len first (needed i - first)) ≡ map (grid_entry net ask.dest i) (range_with_len first (needed i - first)) =
+      mapped-same (entry_in tables i) (grid_entry net ask.dest i) first (needed i - first) (λ t low high. entry-is i t node (omega (arith, high, less))) in
       rw (pairs, lt-ltb 0 (needed i - first) some, lt-ltb first (needed i) less, sym (need-is i node), first_is, entries) refl)
       (λ (past : needed i ≤ first).
       let none : needed i - first ≡ 0 = omega arith in
       rw (pairs, none, le-ltb first (needed i) past) refl)
       (cases_lt first (needed i))
 
-  pub row-is : (i : ℕ) → IsNode net i → row_in plan i ≡ row_of net ask i
-  row-is i node = row-by i node (time_at plan.region.least i) (is.made.region.pairs i node)
+  pub row-is : (i : ℕ) → IsNode net i → row_in region tables i ≡ row_of net ask i
+  row-is i node = row-by i node (time_at region.least i) (region-is.pairs i node)
 
-  pub rows-are : filter_map (row_in plan) (range_with_len 1 net.nodes) ≡ filter_map (row_of net ask) (range_with_len 1 net.nodes)
-  rows-are = found-same (row_in plan) (row_of net ask) 1 net.nodes (λ i low high. row-is i (low, (let z : i ≤ net.nodes = omega arith in z)))
+  pub rows-are : filter_map (row_in region tables) (range_with_len 1 net.nodes) ≡ filter_map (row_of net ask) (range_with_len 1 net.nodes)
+  rows-are = found-same (row_in region tables) (row_of net ask) 1 net.nodes (λ i low high. row-is i (low, (let z : i ≤ net.nodes = omega arith in z)))
 
   -- ---- the rows make a table
-  some-pair : (i : ℕ) (row : PolicyRow) → IsNode net i → row_in plan i ≡ Some row → i ≢ ask.dest
+  some-pair : (i : ℕ) (row : PolicyRow) → IsNode net i → row_in region tables i ≡ Some row → i ≢ ask.dest
   some-pair i row node is_row at =
-      let made = row-made plan i row is_row in
-      let pairs : pairs_at net ask.origin ask.dest ask.budget i ≡ needed i - row.first = is.made.region.pairs i node ∙ ap (λ (time : Option ℕ). pairs_by_need time (needed i)) made.time in
+      let made = row-made region tables i row is_row in
+      let pairs : pairs_at net ask.origin ask.dest ask.budget i ≡ needed i - row.first = region-is.pairs i node ∙ ap (λ (time : Option ℕ). pairs_by_need time (needed i)) made.time in
       let none : pairs_at net ask.origin ask.dest ask.budget i ≡ 0 = ap (pairs_at net ask.origin ask.dest ask.budget) at ∙ is.dest_pairs in
       omega (arith, made.count, made.some, pairs, none)
 
-  row-numbers : (i : ℕ) (row : PolicyRow) → IsNode net i → row_in plan i ≡ Some row → IsRowHead (ask_head net ask.origin ask.dest ask.budget) (row_head row)
+  row-numbers : (i : ℕ) (row : PolicyRow) → IsNode net i → row_in region tables i ≡ Some row → IsRowHead (ask_head net ask.origin ask.dest ask.budget) (row_head row)
   row-numbers i row node is_row =
-      let made = row-made plan i row is_row in
+      let made = row-made region tables i row is_row in
       record {
         node = subst (λ (n : ℕ). (1 ≤ n) × (n ≤ net.nodes)) (sym made.node) node;
         elsewhere = λ at. some-pair i row node is_row (sym made.node ∙ at);
@@ -163,15 +160,15 @@ module _ (net : Net) (ask : Ask) (plan : Plan) (is : IsPlannedFor net ask plan) 
         last = omega (arith, made.count, made.some, need-within i node);
       }
 
-  pub rows-numbers : All (λ row. IsRowHead (ask_head net ask.origin ask.dest ask.budget) (row_head row)) (filter_map (row_in plan) (range_with_len 1 net.nodes))
+  pub rows-numbers : All (λ row. IsRowHead (ask_head net ask.origin ask.dest ask.budget) (row_head row)) (filter_map (row_in region tables) (range_with_len 1 net.nodes))
   rows-numbers =
-      found-all (λ row. IsRowHead (ask_head net ask.origin ask.dest ask.budget) (row_head row)) (row_in plan) 1 net.nodes
+      found-all (λ row. IsRowHead (ask_head net ask.origin ask.dest ask.budget) (row_head row)) (row_in region tables) 1 net.nodes
       (λ i low high row is_row. row-numbers i row (low, (let z : i ≤ net.nodes = omega arith in z)) is_row)
 
-  pub rows-rise : IsStrictlyIncreasing (nodes (filter_map (row_in plan) (range_with_len 1 net.nodes)))
-  rows-rise = found-rise (row_in plan) (λ i row is_row. (row-made plan i row is_row).node) 1 net.nodes
+  pub rows-rise : IsStrictlyIncreasing (nodes (filter_map (row_in region tables) (range_with_len 1 net.nodes)))
+  rows-rise = found-rise (row_in region tables) (λ i row is_row. (row-made region tables i row is_row).node) 1 net.nodes
 
-  pub rows-table : (rows : List PolicyRow) → rows ≡ filter_map (row_in plan) (range_with_len 1 net.nodes) → All (λ row. All IsEntry row.entries) rows → IsHead (ask_head net ask.origin ask.dest ask.budget)
+  pub rows-table : (rows : List PolicyRow) → rows ≡ filter_map (row_in region tables) (range_with_len 1 net.nodes) → All (λ row. All IsEntry row.entries) rows → IsHead (ask_head net ask.origin ask.dest ask.budget)
       → IsTable (record { head = ask_head net ask.origin ask.dest ask.budget; rows = rows })
   rows-table rows are entries head =
       let numbers = subst (λ (rows : List PolicyRow). All (λ (row : PolicyRow). IsRowHead (ask_head net ask.origin ask.dest ask.budget) (row_head row)) rows) (sym are) rows-numbers in
@@ -181,6 +178,6 @@ module _ (net : Net) (ask : Ask) (plan : Plan) (is : IsPlannedFor net ask plan) 
         rising = subst (λ (rows : List PolicyRow). IsStrictlyIncreasing (nodes rows)) (sym are) rows-rise;
       }
 
-  pub table-planned : (rows : List PolicyRow) → rows ≡ filter_map (row_in plan) (range_with_len 1 net.nodes) → record { head = ask_head net ask.origin ask.dest ask.budget; rows = rows } ≡ plan_table net ask
+  pub table-planned : (rows : List PolicyRow) → rows ≡ filter_map (row_in region tables) (range_with_len 1 net.nodes) → record { head = ask_head net ask.origin ask.dest ask.budget; rows = rows } ≡ plan_table net ask
   unfolding plan_table
   table-planned rows are = rw (are, rows-are) refl

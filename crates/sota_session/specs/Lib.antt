@@ -4,3 +4,4 @@ pub mod Answers
 pub mod Words
 pub mod Plans
 pub mod Rows
+pub mod Cuts

@@ -2,12 +2,14 @@
 ghost use Rattle.std.specs.Prelude.{◌≡◌};
 ghost use Rattle.sota_session.specs.Words.{edit_word};
 
+use sota_units::NoMemory;
+
 /// Why an edit is refused.
 #[derive(Clone, Copy, Debug, PartialEq, Eq)]
 pub enum EditFault {
     /// No arc has the number.
     NoArc,
-    /// Memory was wanted, and there was none. It never comes yet.
+    /// Memory was wanted, and there was none. It is no fault of the edit.
     NoMemory,
 }
 
@@ -20,5 +22,15 @@ impl EditFault {
             EditFault::NoArc => b"NoArc",
             EditFault::NoMemory => b"NoMemory",
         }
+    }
+}
+
+impl From<NoMemory> for EditFault {
+    ghost use Rattle.sota_session.specs.declared.edit.EditFault.TheVariants.{NoMemory as OutOfMemory};
+
+    ghost from_gives = { λ _ fault. fault ≡ OutOfMemory };
+
+    fn from(_: NoMemory) -> Self {
+        EditFault::NoMemory
     }
 }

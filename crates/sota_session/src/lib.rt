@@ -1,10 +1,12 @@
-//! Asks and edits of one network.
+//! Asks and edits of one network. What an ask has planned is kept for the next one.
 #![tactic(auto)]
 
 mod ask;
+mod cut;
 mod edit;
 pub mod laws;
 mod plan;
+mod policy;
 mod session;
 #[cfg(test)]
 mod tests;

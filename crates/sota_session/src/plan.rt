@@ -1,139 +1,114 @@
-// What is planned for an ask, and its policy.
-ghost use Rattle.std.specs.Prelude.{◌≡◌, ◌+◌, ◌-◌, ◌≤◌, All, map, IfOk, IfSome};
-ghost use Rattle.std.specs.List.{filter_map, range_with_len};
-ghost use Rattle.sota_network.specs.Grid.{lo};
-ghost use Rattle.sota_polfile.specs.Entry.{IsEntry};
-ghost use Rattle.sota_check.specs.Certified.{IsCertified, value};
-ghost use Rattle.sota_session.specs.Asks.{IsInRange};
-ghost use Rattle.sota_session.specs.Plans.{plan_table};
-ghost use Rattle.sota_session.specs.Rows.{IsPlan, Agrees, entry_in, row_in};
+// What an ask adds to the tables: the entries of its region that are missing.
+ghost use Rattle.std.specs.Prelude.{ℕ, ◌≡◌, ◌+◌, ◌*◌, ◌≤◌, ◌⊎◌, None, Err, IfOk, OnErr, OnOk};
+ghost use Rattle.sota_units.specs.Limits.{BUDGET_LIMIT};
+ghost use Rattle.sota_units.specs.Memory.{Unless};
+ghost use Rattle.sota_network.specs.Network.{IsNet, IsNode};
+ghost use Rattle.sota_kept.specs.States.{after_ask, missing, prepared_state};
+ghost use Rattle.sota_kept.specs.TableLists.{IsKept, IsSettled, state_of};
+ghost use Rattle.sota_bounds.specs.Faults.{TABLE_LIMIT, BROAD_LIMIT};
+ghost use Rattle.sota_bounds.specs.Regions.{IsRegion};
+ghost use Rattle.sota_tables.specs.Views.{lists_of};
+ghost use Rattle.sota_session.specs.Asks.{range_fault, size_fault, IsInRange};
+ghost use Rattle.sota_session.specs.Answers.{is_of_range, is_of_size, is_shortage};
+ghost use Rattle.sota_session.specs.Answers.{is_refused, refusal_of};
+ghost use Rattle.sota_session.specs.Rows.{IsPlanned};
+ghost use Rattle.sota_session.specs.State.{IsLeft, pushes_for, state_after};
+ghost use Rattle.sota_session.specs.declared.ask.AskFault.TheVariants as asks;
 
-use crate::ask::Ask;
-use crate::laws::plans_by_least_times;
-use sota_bounds::AskRegion;
-use sota_check::laws::{plans_hold, rows_make_plans};
-use sota_network::laws::{lists_by_number, region_by_least_times};
-use sota_network::{Grid, Network};
-use sota_polfile::{PolicyEntries, PolicyEntry, PolicyHead, PolicyRow, PolicyTable};
-use sota_units::{NoMemory, NodeId};
+use crate::ask::{Ask, AskFault, find_range_fault};
+use sota_bounds::{AskRegion, region};
+use sota_kept::kept::{needs_are_met, settled_entries};
+use sota_network::Network;
+use sota_network::laws::{grid_recurs, lists_by_number};
+use sota_online::BlockSummer;
+use sota_plan::{Run, extend, prepare};
+use sota_tables::Tables;
+use sota_tables::laws::views_are_lists;
+use sota_units::{NoMemory, Steps};
 use std::alloc::Global;
+use std::sync::ledger::Ledger;
 
-/// What is planned for an ask: its region, and the grid towards its destination.
-#[derive(Drop)]
-pub(crate) struct Plan {
-    pub region: AskRegion,
-    pub grid: Grid,
-}
+/// How broad arcs are summed.
+type Sums = BlockSummer;
 
-/// The policy of an ask, out of what was planned for it.
-pub(crate) fn policy_of(
+/// Plans for an ask: its region, of which no entry is missing in the tables afterwards.
+pub(crate) fn plan<M: Ledger, P: Ledger>(
     alloc: Global,
     network: &Network,
+    tables: &mut Tables,
     ask: &Ask,
-    plan: &Plan,
-) -> Result<PolicyTable, NoMemory>
-    requires in_range { IsInRange network.now ask.now }
-    requires plan { IsPlan plan.now network.now ask.now }
-    ensures file { IfOk result (λ table. table ≡ plan_table network.now ask.now) }
-    ensures certified { IfOk result (λ table. IsCertified network.now table) }
-    ensures bound { IfOk result (λ table. value table ask.now.origin ask.now.budget
-        ≡ lo network.now ask.now.dest ask.now.origin ask.now.budget) }
+    products: &mut Steps<M>,
+    pushes: &mut Steps<P>,
+) -> Result<AskRegion, AskFault>
+    requires kept { IsKept (lists_of tables.old) network.now }
+    ensures range { refusal_of is_of_range result ≡ range_fault network.now ask.now }
+    ensures size { range_fault network.now ask.now ≡ None
+        → Unless (is_refused is_shortage result)
+        (refusal_of is_of_size result ≡ size_fault network.now ask.now) }
+    ensures memory { result ≡ Err asks.NoMemory → IsInRange network.now ask.now }
+    ensures in_range { OnOk result (IsInRange network.now ask.now) }
+    ensures asked { IfOk result (λ made. (made.origin ≡ ask.now.origin)
+        × (made.dest ≡ ask.now.dest) × (made.budget ≡ ask.now.budget)) }
+    ensures planned { IfOk result (λ made. IsPlanned made tables.new network.now) }
+    ensures settled { OnOk result (IsSettled (lists_of tables.new) network.now) }
+    ensures state { OnOk result (state_of (lists_of tables.new)
+        ≡ state_after network.now ask.now (state_of (lists_of tables.old))) }
+    ensures count { OnOk result (pushes.new ≡ pushes.old
+        + pushes_for network.now ask.now (state_of (lists_of tables.old))) }
+    ensures kept { IsKept (lists_of tables.new) network.now }
+    ensures no_push { OnErr result (pushes.new ≡ pushes.old) }
+    ensures unchanged { OnErr result (Unless (is_refused is_shortage result)
+        (lists_of tables.new ≡ lists_of tables.old)) }
+    ensures left { OnErr result
+        (IsLeft network.now ask.now (lists_of tables.old) (lists_of tables.new)) }
+    ensures valid { IsNet network.now }
 {
+    if let Some(fault) = find_range_fault(network, ask) {
+        return Err(fault);
+    }
+    let region = region(alloc, network, ask.origin, ask.dest, ask.budget)?;
+    grow(alloc, network, tables, &region, products, pushes)?;
+    Ok(region)
+}
+
+/// Adds the entries of a region that are missing.
+fn grow<M: Ledger, P: Ledger>(
+    alloc: Global,
+    network: &Network,
+    tables: &mut Tables,
+    region: &AskRegion,
+    products: &mut Steps<M>,
+    pushes: &mut Steps<P>,
+) -> Result<(), NoMemory>
+    requires kept { IsKept (lists_of tables.old) network.now }
+    requires region { IsRegion region.now network.now region.now.origin region.now.dest
+        region.now.budget }
+    requires origin { IsNode network.now region.now.origin }
+    requires dest { IsNode network.now region.now.dest }
+    requires budget { region.now.budget ≤ BUDGET_LIMIT }
+    requires table_cells { region.now.table_cells ≤ TABLE_LIMIT }
+    requires broad_cells { region.now.broad_cells ≤ BROAD_LIMIT }
+    ensures planned { OnOk result (IsPlanned region.now tables.new network.now) }
+    ensures settled { OnOk result (IsSettled (lists_of tables.new) network.now) }
+    ensures state { OnOk result (state_of (lists_of tables.new)
+        ≡ after_ask network.now region.now.origin region.now.dest region.now.budget
+        (state_of (lists_of tables.old))) }
+    ensures count { OnOk result (pushes.new ≡ pushes.old
+        + 3 * missing network.now region.now.origin region.now.dest region.now.budget
+        (state_of (lists_of tables.old))) }
+    ensures kept { IsKept (lists_of tables.new) network.now }
+    ensures no_push { OnErr result (pushes.new ≡ pushes.old) }
+    ensures left { OnErr result ((lists_of tables.new ≡ lists_of tables.old)
+        ⊎ (state_of (lists_of tables.new)
+        ≡ prepared_state network.now region.now.origin region.now.dest region.now.budget
+        (state_of (lists_of tables.old)))) }
+{
+    grid_recurs();
     lists_by_number();
-    region_by_least_times();
-    plans_by_least_times();
-    rows_make_plans();
-    plans_hold();
-    let rows = rows_of(alloc, network, plan)?;
-    let head = PolicyHead {
-        nodes: network.nodes(),
-        dest: ask.dest.get(),
-        origin: ask.origin.get(),
-        budget: ask.budget,
-        scale: network.scale().get(),
-    };
-    Ok(PolicyTable::from_parts(head, rows).unwrap())
-}
-
-/// The rows of all nodes that have one, in rising nodes.
-#[tactic(auto, using(crate::proofs::Ranges::found_more))]
-fn rows_of(alloc: Global, network: &Network, plan: &Plan) -> Result<Vec<PolicyRow>, NoMemory>
-    requires agrees { Agrees plan.now }
-    requires nodes { plan.now.grid.nodes ≡ network.now.nodes }
-    ensures valid { IfOk result (λ rows. All (λ row. All IsEntry row.entries) rows.items) }
-    ensures made { IfOk result (λ rows.
-        rows.items ≡ filter_map (row_in plan.now) (range_with_len 1 network.now.nodes)) }
-{
-    let needs = plan.region.need.as_slice();
-    let count = needs.iter().filter(|need| **need > 0).count();
-    let mut rows = Vec::with_capacity(alloc, count)?;
-    for node in 1..network.nodes() + 1 {
-        if let Some(row) = plan.row(alloc, NodeId(node))? {
-            rows.push(row)?;
-        }
-    }
-    Ok(rows)
-}
-
-impl Plan {
-    /// The row of a node. None exactly where it has no pair in the region.
-    fn row(&self, alloc: Global, node: NodeId) -> Result<Option<PolicyRow>, NoMemory>
-        requires agrees { Agrees self.now }
-        requires node { (1 ≤ node) × (node ≤ self.now.grid.nodes) }
-        ensures made { IfOk result (λ row. row ≡ row_in self.now node) }
-        ensures valid { IfOk result (λ row. IfSome row (λ row. All IsEntry row.entries)) }
-    {
-        let index = node.get() as usize - 1;
-        let need = self.region.need.as_slice()[index];
-        let Some(first) = self.region.least.as_slice()[index] else {
-            return Ok(None);
-        };
-        if first >= u64::from(need) {
-            return Ok(None);
-        }
-        let entries = self.entries(alloc, node, first as u32, need)?;
-        Ok(Some(PolicyRow {
-            node: node.get(),
-            first: first as u32,
-            entries,
-        }))
-    }
-
-    /// The entries of a node from a first budget up to below its need.
-    #[tactic(auto, using(crate::proofs::Ranges::mapped_more))]
-    fn entries(
-        &self,
-        alloc: Global,
-        node: NodeId,
-        first: u32,
-        need: u32,
-    ) -> Result<PolicyEntries, NoMemory>
-        requires node { (1 ≤ node) × (node ≤ self.now.grid.nodes) }
-        requires budgets { (first ≤ need) × (need ≤ self.now.grid.budget + 1) }
-        ensures made { IfOk result (λ entries.
-            entries ≡ map (entry_in self.now.grid node) (range_with_len first (need - first))) }
-        ensures valid { IfOk result (λ entries. All IsEntry entries) }
-    {
-        let mut entries = Vec::with_capacity(alloc, (need - first) as usize)?;
-        for budget in first..need {
-            entries.push(self.entry(node, budget))?;
-        }
-        Ok(PolicyEntries::new(entries))
-    }
-
-    /// The entry of a node at a budget.
-    fn entry(&self, node: NodeId, budget: u32) -> PolicyEntry
-        requires node { (1 ≤ node) × (node ≤ self.now.grid.nodes) }
-        requires budget { budget ≤ self.now.grid.budget }
-        ensures { result ≡ entry_in self.now.grid node budget }
-    {
-        let arc = match self.grid.choice(node, budget) {
-            Some(arc) => arc.get(),
-            None => 0,
-        };
-        PolicyEntry {
-            arc,
-            value: self.grid.lower(node, budget).get(),
-        }
-    }
+    needs_are_met();
+    settled_entries();
+    views_are_lists();
+    let mut run = prepare::<Sums>(alloc, network, tables, region)?;
+    extend(tables, network, &mut run, products, pushes);
+    Ok(())
 }

@@ -1,69 +1,124 @@
 // A network that is asked and edited.
-ghost use Rattle.std.specs.Prelude.{◌≡◌, ◌≤◌, ◌↔◌, None, Err, IfOk, OnErr, OnOk};
+ghost use Rattle.std.specs.Prelude.{◌≡◌, ◌+◌, ◌≤◌, ◌⊎◌, ◌↔◌, None, Err, IfOk, OnErr, OnOk};
+ghost use Rattle.std.specs.Option.{option_map};
 ghost use Rattle.sota_units.specs.Memory.{Unless};
 ghost use Rattle.sota_hist.specs.Time.{total};
-ghost use Rattle.sota_network.specs.Network.{IsNet, arc_at, replaced};
+ghost use Rattle.sota_network.specs.Network.{IsNet, IsNode, arc_at, replaced};
 ghost use Rattle.sota_network.specs.Grid.{lo};
+ghost use Rattle.sota_kept.specs.States.{front_of, base_of, first_state};
+ghost use Rattle.sota_kept.specs.TableLists.{IsKept, IsSettled};
 ghost use Rattle.sota_check.specs.Certified.{IsCertified, value};
 ghost use Rattle.sota_session.specs.Asks.{range_fault, size_fault, answer_of, IsInRange};
 ghost use Rattle.sota_session.specs.Plans.{plan_table};
-ghost use Rattle.sota_session.specs.Rows.{IsPlan};
 ghost use Rattle.sota_session.specs.Answers.{is_of_range, is_of_size, is_shortage};
 ghost use Rattle.sota_session.specs.Answers.{is_refused, refusal_of};
+ghost use Rattle.sota_session.specs.State.{kept_state, state_after, pushes_for, IsLeft};
+ghost use Rattle.sota_session.specs.State.{state_edited};
+ghost use Rattle.sota_session.specs.Cuts.{IsCutFor};
 ghost use Rattle.sota_session.specs.declared.ask.AskFault.TheVariants as asks;
 ghost use Rattle.sota_session.specs.declared.edit.EditFault.TheVariants as edits;
 
-use crate::ask::{Answer, Ask, AskFault, find_range_fault};
+use crate::ask::{Answer, Ask, AskFault};
+use crate::cut::cut_all;
 use crate::edit::EditFault;
-use crate::plan::{Plan, policy_of};
-use sota_bounds::region;
+use crate::plan::plan;
+use crate::policy::policy_of;
+use sota_bounds::affected;
 use sota_hist::Histogram;
-use sota_network::{Network, plain_grid};
+use sota_kept::kept::tables_stay_right;
+use sota_kept::laws::edits_affect;
+use sota_network::Network;
+use sota_network::laws::{arcs_by_number, lists_by_number};
 use sota_polfile::PolicyTable;
-use sota_units::{ArcId, NoMemory, Steps};
+use sota_tables::Tables;
+use sota_tables::laws::{tables_stay_kept, views_are_lists};
+use sota_units::{ArcId, NoMemory, NodeId, Steps};
 use std::alloc::Global;
 use std::marker::Model;
 use std::sync::ledger::Ledger;
 
-/// A network that is asked and edited, seen as the network that it is now. Nothing of what was
-/// asked is kept: each ask is planned afresh.
+/// A network that is asked and edited, seen as the network that it is now and what is kept of its
+/// grid. What an ask has planned stays for the next one to the same destination, as far as no edit
+/// can have changed it.
 #[derive(Drop)]
 pub struct Session {
     network: Network,
+    tables: Tables,
     alloc: Global,
 }
 
 impl Model for Session {
+    ghost use Rattle.sota_kept.specs.TableLists.{IsKept};
+    ghost use Rattle.sota_tables.specs.Views.{lists_of};
     ghost use Rattle.sota_session.specs.State.{SessionState};
 
     ghost Value = { SessionState };
 
-    ghost view = { λ session. record { network = session.network } };
+    ghost view = { λ session. record {
+      network = session.network;
+      tables = lists_of session.tables;
+    } };
+
+    ghost invariant = { λ session. IsKept (lists_of session.tables) session.network };
 }
 
 impl Session {
-    /// A session of this network. `alloc` is where its asks take memory; it takes none itself yet.
+    /// A session of this network, in which nothing is kept yet. `alloc` is where it takes memory.
     pub fn new(alloc: Global, network: Network) -> Result<Session, NoMemory>
-        ensures { IfOk result (λ session. session.network ≡ network) }
+        ensures network { IfOk result (λ session. session.network ≡ network) }
+        ensures state { IfOk result (λ session. kept_state session ≡ first_state network.nodes) }
     {
-        Ok(Session { network, alloc })
+        lists_by_number();
+        tables_stay_kept();
+        let tables = Tables::new(alloc, network.nodes())?;
+        Ok(Session {
+            network,
+            tables,
+            alloc,
+        })
     }
 
     /// The network as it is now.
     pub fn network(&self) -> &Network
-        ensures { result.now ≡ self.now.network }
+        ensures value { result.now ≡ self.now.network }
+        ensures valid { IsKept self.now.tables self.now.network }
     {
         &self.network
     }
 
-    /// Answers an ask for the network as it is now, which stays as it is.
+    /// The destination for which entries are kept. None exactly where there is none yet. An ask or
+    /// a policy that found no memory may have set it.
+    pub fn dest(&self) -> Option<NodeId>
+        ensures { result ≡ (kept_state self.now).dest }
+    {
+        self.tables.dest()
+    }
+
+    /// The front of a node: one above its last budget with an entry.
+    pub fn front(&self, node: NodeId) -> u32
+        requires { IsNode self.now.network node }
+        ensures { result ≡ front_of (kept_state self.now) node }
+    {
+        self.tables.front(node)
+    }
+
+    /// The base of a node: its first budget with an entry, where it has one.
+    pub fn base(&self, node: NodeId) -> u32
+        requires { IsNode self.now.network node }
+        ensures { result ≡ base_of (kept_state self.now) node }
+    {
+        self.tables.base(node)
+    }
+
+    /// Answers an ask for the network as it is now, which stays as it is. What is missing for it is
+    /// added to what is kept, three pushes an entry.
     ///
     /// NoOrigin, NoDest and Budget come exactly where they say, the first of them that stands. For
     /// an ask in range TableCells and BroadCells come exactly where they say, in this order, but
-    /// for want of memory, which comes for no other.
+    /// for want of memory, which comes for no other. After a refusal all is unchanged, but that
+    /// want of memory may leave the first steps of the ask taken, which add no entry.
     ///
-    /// `products` and `pushes` are to count multiplications and table entries; nothing is promised
-    /// of them yet.
+    /// `products` counts multiplications; nothing is promised of it.
     pub fn ask<M: Ledger, P: Ledger>(
         &mut self,
         ask: Ask,
@@ -76,24 +131,40 @@ impl Session {
             (refusal_of is_of_size result ≡ size_fault self.old.network ask) }
         ensures memory { result ≡ Err asks.NoMemory → IsInRange self.old.network ask }
         ensures answer { IfOk result (λ answer. answer ≡ answer_of self.old.network ask) }
-        ensures kept { self.new ≡ self.old }
+        ensures kept { self.new.network ≡ self.old.network }
+        ensures state { OnOk result (kept_state self.new
+            ≡ state_after self.old.network ask (kept_state self.old)) }
+        ensures settled { OnOk result (IsSettled self.new.tables self.new.network) }
+        ensures count { OnOk result (pushes.new
+            ≡ pushes.old + pushes_for self.old.network ask (kept_state self.old)) }
+        ensures no_push { OnErr result (pushes.new ≡ pushes.old) }
+        ensures unchanged { OnErr result
+            (Unless (is_refused is_shortage result) (self.new ≡ self.old)) }
+        ensures left { OnErr result
+            (IsLeft self.old.network ask self.old.tables self.new.tables) }
+        ensures right { IsKept self.new.tables self.new.network }
         ensures valid { IsNet self.new.network }
     {
-        let _ = products;
-        let _ = pushes;
-        let plan = self.plan(&ask)?;
+        plan(
+            self.alloc,
+            &self.network,
+            &mut self.tables,
+            &ask,
+            products,
+            pushes,
+        )?;
         Ok(Answer {
-            lower: plan.grid.lower(ask.origin, ask.budget),
-            upper: plan.grid.upper(ask.origin, ask.budget),
-            next: plan.grid.choice(ask.origin, ask.budget),
+            lower: self.tables.lower(ask.origin, ask.budget),
+            upper: self.tables.upper(ask.origin, ask.budget),
+            next: self.tables.choice(ask.origin, ask.budget),
         })
     }
 
     /// The policy of an ask for the network as it is now, which stays as it is: the grid over the
     /// region of the ask. It holds on the network, and its value is the answer's lower bound.
     ///
-    /// It is refused as the ask is. `products` and `pushes` are to count multiplications and table
-    /// entries; nothing is promised of them yet.
+    /// It is refused as the ask is, and leaves what the ask leaves. Where it finds no memory after
+    /// the ask was planned, the state and the pushes are those after the ask.
     pub fn policy<M: Ledger, P: Ledger>(
         &mut self,
         ask: Ask,
@@ -109,47 +180,77 @@ impl Session {
         ensures certified { IfOk result (λ table. IsCertified self.old.network table) }
         ensures bound { IfOk result (λ table. value table ask.origin ask.budget
             ≡ lo self.old.network ask.dest ask.origin ask.budget) }
-        ensures kept { self.new ≡ self.old }
+        ensures kept { self.new.network ≡ self.old.network }
+        ensures state { OnOk result (kept_state self.new
+            ≡ state_after self.old.network ask (kept_state self.old)) }
+        ensures settled { OnOk result (IsSettled self.new.tables self.new.network) }
+        ensures count { OnOk result (pushes.new
+            ≡ pushes.old + pushes_for self.old.network ask (kept_state self.old)) }
+        ensures unchanged { OnErr result (Unless (is_refused is_shortage result)
+            ((self.new ≡ self.old) × (pushes.new ≡ pushes.old))) }
+        ensures left { OnErr result
+            ((IsLeft self.old.network ask self.old.tables self.new.tables
+            × (pushes.new ≡ pushes.old))
+            ⊎ ((kept_state self.new ≡ state_after self.old.network ask (kept_state self.old))
+            × (pushes.new
+            ≡ pushes.old + pushes_for self.old.network ask (kept_state self.old)))) }
+        ensures right { IsKept self.new.tables self.new.network }
         ensures valid { IsNet self.new.network }
     {
-        let _ = products;
-        let _ = pushes;
-        let plan = self.plan(&ask)?;
-        Ok(policy_of(self.alloc, &self.network, &ask, &plan)?)
-    }
-
-    /// Plans for an ask.
-    fn plan(&self, ask: &Ask) -> Result<Plan, AskFault>
-        ensures range { refusal_of is_of_range result ≡ range_fault self.now.network ask.now }
-        ensures size { range_fault self.now.network ask.now ≡ None
-            → Unless (is_refused is_shortage result)
-            (refusal_of is_of_size result ≡ size_fault self.now.network ask.now) }
-        ensures memory { result ≡ Err asks.NoMemory → IsInRange self.now.network ask.now }
-        ensures in_range { OnOk result (IsInRange self.now.network ask.now) }
-        ensures planned { IfOk result (λ plan. IsPlan plan self.now.network ask.now) }
-        ensures valid { IsNet self.now.network }
-    {
-        if let Some(fault) = find_range_fault(&self.network, ask) {
-            return Err(fault);
-        }
-        let region = region(self.alloc, &self.network, ask.origin, ask.dest, ask.budget)?;
-        let grid = plain_grid(self.alloc, &self.network, ask.dest, ask.budget)?;
-        Ok(Plan { region, grid })
+        let region = plan(
+            self.alloc,
+            &self.network,
+            &mut self.tables,
+            &ask,
+            products,
+            pushes,
+        )?;
+        let table = policy_of(self.alloc, &self.network, &ask, &region, &self.tables)?;
+        Ok(table)
     }
 
     /// Gives an arc another time, by which the asks that follow are answered. A closed time closes
-    /// the arc. NoArc exactly where the number is not from 1 to the number of arcs. After a refusal
-    /// all is unchanged.
+    /// the arc. Entries that it can change are kept no more, and all others are. NoArc exactly
+    /// where the number is not from 1 to the number of arcs. After a refusal all is unchanged.
     pub fn edit(&mut self, arc: ArcId, time: Histogram) -> Result<(), EditFault>
         requires { total time ≤ self.old.network.scale }
         ensures no_arc { (result ≡ Err edits.NoArc) ↔ (arc_at self.old.network arc ≡ None) }
         ensures replaced { OnOk result (self.new.network ≡ replaced self.old.network arc time) }
+        ensures state { OnOk result (kept_state self.new
+            ≡ state_edited self.old.network arc time (kept_state self.old)) }
         ensures unchanged { OnErr result (self.new ≡ self.old) }
+        ensures right { IsKept self.new.tables self.new.network }
         ensures valid { IsNet self.new.network }
     {
-        match self.network.replace(arc, time) {
-            Ok(_) => Ok(()),
-            Err(_) => Err(EditFault::NoArc),
+        arcs_by_number();
+        tables_stay_right();
+        views_are_lists();
+        let cuts = self.cuts(arc, &time)?;
+        let _ = self.network.replace(arc, time);
+        if let Some(budgets) = cuts {
+            cut_all(&mut self.tables, &budgets);
+        }
+        Ok(())
+    }
+
+    /// The first affected budgets of an edit. None exactly where nothing is kept for a destination,
+    /// or the arc has this time already.
+    fn cuts(&self, arc: ArcId, time: &Histogram) -> Result<Option<Vec<Option<u64>>>, EditFault>
+        ensures no_arc { (result ≡ Err edits.NoArc) ↔ (arc_at self.now.network arc ≡ None) }
+        ensures cuts { IfOk result (λ cuts. IsCutFor self.now.network self.now.tables.dest arc
+            time.now (option_map (λ budgets. budgets.items) cuts)) }
+        ensures valid { IsNet self.now.network }
+    {
+        edits_affect();
+        let Some(edited) = self.network.arc(arc) else {
+            return Err(EditFault::NoArc);
+        };
+        match (self.tables.dest(), edited.time.first_difference(time)) {
+            (Some(dest), Some(first)) => {
+                let budgets = affected(self.alloc, &self.network, dest, arc, first)?;
+                Ok(Some(budgets))
+            }
+            _ => Ok(None),
         }
     }
 }

@@ -1,4 +1,4 @@
-// Each call once with ample memory, on a network of one road, and policies of two small networks.
+// Each call with ample memory, on a network of one road and on a triangle.
 ghost use Rattle.std.specs.Prelude.{◌≡◌, ◌≤◌, ◌<◌};
 
 use crate::{Answer, Ask, AskFault, EditFault, Session};
@@ -8,6 +8,7 @@ use sota_polfile::{PolicyTable, write_policy};
 use sota_units::{ArcId, Grain, Mass, NoMemory, NodeId, Scale, Steps, Tick};
 use std::alloc::Global;
 use std::marker::Brand;
+use std::process::Abort;
 use std::sync::ledger::{Blank, Ledger};
 use std::test::Fail;
 
@@ -98,46 +99,88 @@ fn policy(
     Ok(write_policy(alloc, &table)?)
 }
 
-/// Gives an arc a certain time.
-fn edit(alloc: Global, session: &mut Session, arc: u32, tick: u32) -> Result<(), EditFault>
-    requires { 1 ≤ tick }
-{
-    let scale = session.network().scale();
-    match Histogram::certain(alloc, scale, Tick(tick)) {
-        Ok(time) => session.edit(ArcId(arc), time),
-        Err(NoMemory) => Err(EditFault::NoMemory),
-    }
+/// What is done in a session of the triangle.
+#[derive(Clone, Copy)]
+enum Step {
+    /// An ask by its origin, destination and budget; both its bounds, and its arc.
+    Ask(u32, u32, u32, u64, u32),
+    /// An arc takes one of two ticks, the first three times as likely.
+    Edit(u32, u32, u32),
+    Close(u32),
 }
 
-/// Closes an arc.
-fn close(alloc: Global, session: &mut Session, arc: u32) -> Result<(), EditFault> {
-    session.edit(ArcId(arc), Histogram::closed(alloc))
+const HALF: u64 = 500_000_000_000_000_000;
+
+const SURELY: u64 = 1_000_000_000_000_000_000;
+
+// Steps, and the fronts after each. A longer budget adds what is missing, and a shorter one
+// nothing. An edit leaves the entries that it cannot change, one without a difference leaves all,
+// and the next ask adds the others again. Another destination begins afresh.
+const STEPS: [(Step, [u32; 3]); 12] = [
+    (Step::Ask(1, 3, 2, HALF, 1), [3, 2, 0]),
+    (Step::Ask(1, 3, 9, SURELY, 1), [10, 9, 0]),
+    (Step::Ask(1, 3, 4, SURELY, 1), [10, 9, 0]),
+    (Step::Edit(3, 3, 6), [5, 9, 0]),
+    (Step::Ask(1, 3, 5, SURELY, 1), [6, 9, 0]),
+    (Step::Close(3), [3, 9, 0]),
+    (Step::Ask(1, 3, 9, SURELY, 1), [10, 9, 0]),
+    (Step::Edit(2, 1, 3), [2, 1, 0]),
+    (Step::Ask(1, 3, 9, SURELY, 1), [10, 9, 0]),
+    (Step::Edit(2, 1, 3), [10, 9, 0]),
+    (Step::Close(2), [2, 1, 0]),
+    (Step::Ask(1, 2, 1, SURELY, 1), [2, 0, 0]),
+];
+
+/// Takes one step.
+fn take(rt: &impl Abort, alloc: Global, session: &mut Session, step: Step) -> Result<(), Fail> {
+    match step {
+        Step::Ask(origin, dest, budget, value, arc) => {
+            let answer = ask(session, origin, dest, budget).ok().ok_or("an answer")?;
+            assert_eq!(rt; answer.lower.get(), value);
+            assert_eq!(rt; answer.upper.get(), value);
+            assert_eq!(rt; answer.next, Some(ArcId(arc)));
+        }
+        Step::Edit(arc, one, other) => {
+            let pairs = [(Tick(one), Mass(3)), (Tick(other), Mass(1))];
+            let time = Histogram::build(alloc, session.network().scale(), &pairs)?;
+            assert_eq!(rt; session.edit(ArcId(arc), time), Ok(()));
+        }
+        Step::Close(arc) => {
+            assert_eq!(rt; session.edit(ArcId(arc), Histogram::closed(alloc)), Ok(()));
+        }
+    }
+    Ok(())
+}
+
+/// The front and the base of a node, 0 where there is no such node.
+fn kept(session: &Session, node: u32) -> (u32, u32) {
+    if node == 0 || session.network().nodes() < node {
+        return (0, 0);
+    }
+    (session.front(NodeId(node)), session.base(NodeId(node)))
+}
+
+/// Takes all steps.
+fn take_all(rt: &impl Abort, alloc: Global, session: &mut Session) -> Result<(), Fail> {
+    for (step, fronts) in STEPS {
+        take(rt, alloc, session, step)?;
+        let (one, two, three) = (kept(session, 1).0, kept(session, 2).0, kept(session, 3).0);
+        assert!(rt; [one, two, three] == fronts);
+    }
+    Ok(())
 }
 
 #[test]
 fn asks_and_edits(rt: HostRuntime) -> Result<(), Fail> {
-    let mut session = Session::new(rt.alloc(), one_road(rt.alloc(), 2)?)?;
-    let late = Answer {
-        lower: Grain::ZERO,
-        upper: Grain::ZERO,
-        next: None,
-    };
-    let in_time = Answer {
-        lower: Grain::ONE,
-        upper: Grain::ONE,
-        next: Some(ArcId(1)),
-    };
-    assert_eq!(rt; ask(&mut session, 1, 2, 1), Ok(late));
-    assert_eq!(rt; ask(&mut session, 1, 2, 2), Ok(in_time));
-    assert_eq!(rt; edit(rt.alloc(), &mut session, 2, 1), Err(EditFault::NoArc));
-    assert_eq!(rt; close(rt.alloc(), &mut session, 2), Err(EditFault::NoArc));
-    assert_eq!(rt; ask(&mut session, 1, 2, 1), Ok(late));
-    assert_eq!(rt; edit(rt.alloc(), &mut session, 1, 1), Ok(()));
-    assert_eq!(rt; ask(&mut session, 1, 2, 1), Ok(in_time));
-    assert_eq!(rt; close(rt.alloc(), &mut session, 1), Ok(()));
-    assert_eq!(rt; ask(&mut session, 1, 2, 9), Ok(late));
-    assert_eq!(rt; edit(rt.alloc(), &mut session, 1, 9), Ok(()));
-    assert_eq!(rt; ask(&mut session, 1, 2, 9), Ok(in_time));
+    let mut session = Session::new(rt.alloc(), triangle(rt.alloc())?)?;
+    assert_eq!(rt; session.dest(), None);
+    assert_eq!(rt; kept(&session, 1), (0, 65536));
+    take_all(&rt, rt.alloc(), &mut session)?;
+    assert_eq!(rt; session.dest(), Some(NodeId(2)));
+    assert_eq!(rt; kept(&session, 1), (2, 1));
+    let closed = Histogram::closed(rt.alloc());
+    assert_eq!(rt; session.edit(ArcId(4), closed), Err(EditFault::NoArc));
+    assert_eq!(rt; kept(&session, 1), (2, 1));
     Ok(())
 }
 

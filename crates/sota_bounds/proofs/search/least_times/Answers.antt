@@ -1,10 +1,11 @@
-use Rattle.std.proofs.Common.{rules, ℕ, ◌≡◌, ◌-◌, ◌<◌, length, set, replicate, Option, None, Some, List, refl, ◌∙◌, ap, arith, heap_items}
+use Rattle.std.proofs.Common.{rules, ℕ, ◌≡◌, ◌-◌, ◌<◌, ◌≤◌, length, set, replicate, Option, None, Some, List, refl, ◌∙◌, ap, arith, heap_items}
 use Rattle.std.proofs.Math.ListN.{length-replicate}
 use Rattle.std.proofs.lemmas.List.{get_or-replicate}
+use Rattle.sota_units.specs.Limits.{NODE_LIMIT}
 use Rattle.sota_bounds.specs.Search.{time_at}
 use Rattle.sota_bounds.proofs.Joined.{HasArcs}
 use Rattle.sota_bounds.proofs.Earliest.{earliest}
-use Rattle.sota_bounds.proofs.Settling.{begun, dropped, all-least, visited, read-none, read-some}
+use Rattle.sota_bounds.proofs.Settling.{begun, dropped, all-least, all-few, visited, read-none, read-some}
 use Rattle.sota_bounds.proofs.Settled.{IsStep, settle, fewer}
 use Rattle.sota_bounds.proofs.search.least_times.Goals.{After-nodes}
 use Rattle.sota_bounds.proofs.search.least_times.Goals as goal
@@ -70,3 +71,7 @@ pub returns-clause-least : goal.returns-clause-least
 returns-clause-least c = λ i node.
     all-least c.args.network.now (arcs (goal.at.returns-clause-least c).After-nodes) c.args.dest c.args.direction c.args.source c.requires c.loop-visit.times.items (heap_items c.loop-visit.queue) c.loop-visit.invariant.search
     (λ visit among. let h : length (heap_items c.loop-visit.queue) ≡ 0 = omega (arith, c.in_default.ensures.none) in omega (arith, among.1)) i node
+
+pub returns-clause-within : goal.returns-clause-within
+returns-clause-within c =
+    all-few c.args.network.now c.args.dest c.args.direction c.args.source c.loop-visit.times.items (heap_items c.loop-visit.queue) c.loop-visit.invariant.search (let small : c.args.network.now.nodes ≤ NODE_LIMIT = omega (arith, c.nodes.ensures.within) in small)

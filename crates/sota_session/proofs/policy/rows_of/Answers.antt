@@ -6,13 +6,13 @@ use Rattle.sota_polfile.specs.declared.row.PolicyRow.{PolicyRow}
 use Rattle.sota_polfile.specs.Entry.{IsEntry}
 use Rattle.sota_session.specs.Rows.{row_in}
 use Rattle.sota_session.proofs.Ranges.{found_more}
-use Rattle.sota_session.proofs.plan.rows_of.Goals as goal
-use Rattle.sota_session.proofs.plan.rows_of.Goals.{in-Some+in_ok-push, in_default}
+use Rattle.sota_session.proofs.policy.rows_of.Goals as goal
+use Rattle.sota_session.proofs.policy.rows_of.Goals.{in-Some+in_ok-push, in_default}
 
 pub loop-node-preserved : goal.loop-node-preserved
 loop-node-preserved c =
-    let more = found_more (row_in c.args.plan.now) c.loop-node.node (omega arith) in
-    let before = filter_map (row_in c.args.plan.now) (range_with_len 1 (c.loop-node.node - 1)) in
+    let more = found_more (row_in c.args.region.now c.args.tables.now) c.loop-node.node (omega arith) in
+    let before = filter_map (row_in c.args.region.now c.args.tables.now) (range_with_len 1 (c.loop-node.node - 1)) in
     let adds = λ (found : Option PolicyRow). before ++ cons_option found [] in
     elim c.match-branch-3.branch [
       | in-Some+in_ok-push w ↦

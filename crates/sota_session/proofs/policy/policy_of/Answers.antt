@@ -4,20 +4,17 @@ use Rattle.sota_polfile.specs.Table.{Table, IsTable}
 use Rattle.sota_polfile.specs.declared.fault.PolicyFault.{PolicyFault}
 use Rattle.sota_check.specs.Planned.{ask_head, IsPlanFile}
 use Rattle.sota_session.specs.Plans.{plan_table}
-use Rattle.sota_session.proofs.Planned.{IsPlannedFor, plan-agrees, rows-table, table-planned}
-use Rattle.sota_session.proofs.plan.policy_of.Goals as goal
-use Rattle.sota_session.proofs.plan.policy_of.Goals.{After-plans_hold, After-from_parts}
+use Rattle.sota_session.proofs.Planned.{IsPlannedFor, rows-table, table-planned}
+use Rattle.sota_session.proofs.policy.policy_of.Goals as goal
+use Rattle.sota_session.proofs.policy.policy_of.Goals.{After-plans_hold, After-from_parts}
 
-planned : (c : goal.After-plans_hold) → IsPlannedFor c.args.network.now c.args.ask.now c.args.plan.now
+planned : (c : goal.After-plans_hold) → IsPlannedFor c.args.network.now c.args.ask.now c.args.region.now c.args.tables.now
 planned c = record {
-  made = c.requires.plan;
-  count = c.lists_by_number.ensures.count;
+  made = c.requires.planned;
+  asked = c.requires.asked;
   entry = c.lists_by_number.ensures.entry;
   dest_pairs = c.region_by_least_times.ensures.dest_pairs c.args.network.now c.args.ask.now.origin c.args.ask.now.dest c.args.ask.now.budget;
 }
-
-pub rows_of-requires-clause-agrees : goal.rows_of-requires-clause-agrees
-rows_of-requires-clause-agrees c = plan-agrees c.args.network.now c.args.ask.now c.args.plan.now (planned c)
 
 -- the parts that are handed over
 abbrev handed : goal.After-from_parts → Table
@@ -35,11 +32,11 @@ handed c = record {
 parts : (c : goal.After-from_parts) → handed c ≡ record { head = ask_head c.args.network.now c.args.ask.now.origin c.args.ask.now.dest c.args.ask.now.budget; rows = c.in_ok-rows.rows.items }
 parts c = rw (c.nodes.ensures.value, c.get.ensures, c.get-2.ensures, c.get-3.ensures.value, c.scale.ensures.value) refl
 
-valid : (c : goal.After-from_parts) → IsPlannedFor c.args.network.now c.args.ask.now c.args.plan.now → IsTable (handed c)
+valid : (c : goal.After-from_parts) → IsPlannedFor c.args.network.now c.args.ask.now c.args.region.now c.args.tables.now → IsTable (handed c)
 valid c is =
     let scale : (1 ≤ c.scale.result) × (c.scale.result ≤ SCALE_LIMIT) = (c.get-3.ensures.positive, c.get-3.ensures.within) in
     subst IsTable (sym (parts c))
-    (rows-table c.args.network.now c.args.ask.now c.args.plan.now is c.in_ok-rows.rows.items c.in_ok-rows.ensures.made c.in_ok-rows.ensures.valid
+    (rows-table c.args.network.now c.args.ask.now c.args.region.now c.args.tables.now is c.in_ok-rows.rows.items c.in_ok-rows.ensures.made c.in_ok-rows.ensures.valid
     (record {
       nodes = c.nodes.ensures.within;
       dest = c.requires.in_range.dest;
@@ -58,7 +55,7 @@ returns c =
     let given = (goal.at.returns c).After-from_parts in
     let is = planned (goal.at.returns c).After-plans_hold in
     let made = subst (λ (r : Result Table PolicyFault). IfOk r (λ table. table ≡ handed given)) c.unwrap.ensures c.from_parts.ensures.made in
-    let file : c.unwrap.result ≡ plan_table net ask = made ∙ parts given ∙ table-planned net ask c.args.plan.now is c.in_ok-rows.rows.items c.in_ok-rows.ensures.made in
+    let file : c.unwrap.result ≡ plan_table net ask = made ∙ parts given ∙ table-planned net ask c.args.region.now c.args.tables.now is c.in_ok-rows.rows.items c.in_ok-rows.ensures.made in
     let is_table = subst IsTable (sym made) (valid given is) in
     let is_file = subst (IsPlanFile net ask.origin ask.dest ask.budget) (sym file) (c.plans_by_least_times.ensures net ask c.nodes.ensures.valid) in
     let plan = c.rows_make_plans.ensures.file net ask.origin ask.dest ask.budget c.unwrap.result c.nodes.ensures.valid is_table is_file in

@@ -1,0 +1,16 @@
+-- What is answered of an edit: from which budget on it can change the entries of a node.
+use Rattle.std.specs.Prelude.{ℕ, ◌≡◌, Option}
+use Rattle.sota_network.specs.Network.{Net}
+use Rattle.sota_network.specs.Walks.{IsLeastTime}
+use Rattle.sota_network.specs.declared.network.Arc.{Arc}
+use Rattle.sota_kept.specs.Edits.{first_affected_by}
+
+-- the first affected budget of node i, none being never: the sum of the least time to the arc's
+-- tail, the least tick at which its times differ, and the least time from its head on
+pub record IsFirstAffected (net : Net) (dest : ℕ) (arc : Arc) (first i : ℕ) (found : Option ℕ)
+    : Type 0 where
+  pub to : Option ℕ
+  pub onward : Option ℕ
+  pub least_to_tail : IsLeastTime net dest i arc.tail to
+  pub least_onward : IsLeastTime net dest arc.head dest onward
+  pub sum : found ≡ first_affected_by dest arc first i to onward

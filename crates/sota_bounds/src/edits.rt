@@ -1,0 +1,82 @@
+// From which budget on another time of an arc can change what is planned for a node.
+ghost use Rattle.std.specs.Prelude.{ℕ, ◌≡◌, ◌-◌, ◌≤◌, length, slice_index_or, IfOk, IfSome};
+ghost use Rattle.std.specs.Prelude.{None, Some};
+ghost use Rattle.std.specs.List.{All};
+ghost use Rattle.sota_units.specs.Limits.{NODE_LIMIT};
+ghost use Rattle.sota_network.specs.Network.{IsNode, arc_at};
+ghost use Rattle.sota_network.specs.declared.network.Arc.{Arc};
+ghost use Rattle.sota_kept.specs.Edits.{first_affected_by};
+ghost use Rattle.sota_bounds.specs.Affected.{IsFirstAffected};
+ghost use Rattle.sota_bounds.specs.Search.{TIME_LIMIT, time_at};
+
+use crate::least::least_to;
+use crate::search::{Direction, least_times};
+use sota_network::{Arc, Network};
+use sota_units::{ArcId, NoMemory, NodeId, Tick};
+use std::alloc::Global;
+
+/// The first affected budget of each node, in ticks, where an arc gets another time that differs
+/// from its own at no tick below `first`: that of node `i` stands at index `i - 1`. None: never.
+/// No entry of the grid below it changes. Near-linear in nodes and arcs.
+pub fn affected(
+    alloc: Global,
+    network: &Network,
+    dest: NodeId,
+    arc: ArcId,
+    first: Tick,
+) -> Result<Vec<Option<u64>>, NoMemory>
+    requires dest { IsNode network.now dest }
+    requires arc { (1 ≤ arc) × (arc ≤ length network.now.arcs) }
+    ensures nodes { IfOk result (λ budgets. length budgets.items ≡ network.now.nodes) }
+    ensures value { IfOk result (λ budgets. (i : ℕ) (edited : Arc) → IsNode network.now i
+        → arc_at network.now arc ≡ Some edited → IsFirstAffected network.now dest edited first i
+        (slice_index_or budgets.items (i - 1) None)) }
+{
+    let arc = network.numbered(arc);
+    let onward = least_to(alloc, network, dest)?[arc.head.get() as usize - 1];
+    let to = least_times(alloc, network, Direction::Against, arc.tail, dest)?;
+    Ok(with_onward(to, dest, arc, first, onward))
+}
+
+/// The first affected budgets of all nodes, by their least times to the arc's tail and the least
+/// time from the arc's head on.
+fn with_onward(
+    mut times: Vec<Option<u64>>,
+    dest: NodeId,
+    arc: &Arc,
+    first: Tick,
+    onward: Option<u64>,
+) -> Vec<Option<u64>>
+    requires nodes { length times.items ≤ NODE_LIMIT }
+    requires to { All (λ time. IfSome time (λ n. n ≤ TIME_LIMIT)) times.items }
+    requires onward { IfSome onward (λ n. n ≤ TIME_LIMIT) }
+    ensures nodes { length result.items ≡ length times.items }
+    ensures value { (i : ℕ) → 1 ≤ i → i ≤ length times.items → time_at result.items i
+        ≡ first_affected_by dest arc.now first i (time_at times.items i) onward }
+{
+    for index in 0..times.len() {
+        let node = NodeId(index as u32 + 1);
+        times[index] = first_affected(dest, arc, first, node, times[index], onward);
+    }
+    times
+}
+
+/// The first affected budget of a node, by its least time to the arc's tail and the least time from
+/// the arc's head on.
+fn first_affected(
+    dest: NodeId,
+    arc: &Arc,
+    first: Tick,
+    node: NodeId,
+    to: Option<u64>,
+    onward: Option<u64>,
+) -> Option<u64>
+    requires to { IfSome to (λ n. n ≤ TIME_LIMIT) }
+    requires onward { IfSome onward (λ n. n ≤ TIME_LIMIT) }
+    ensures { result ≡ first_affected_by dest arc.now first node to onward }
+{
+    if arc.tail == dest || node == dest {
+        return None;
+    }
+    Some(to? + (u64::from(first.get()) + onward?))
+}

@@ -1,0 +1,145 @@
+// The policy of an ask, out of the tables.
+ghost use Rattle.std.specs.Prelude.{◌≡◌, ◌-◌, ◌≤◌, ◌<◌, ℕ, All, length, map, IfOk, IfSome};
+ghost use Rattle.std.specs.List.{filter_map, range_with_len};
+ghost use Rattle.sota_network.specs.Grid.{lo};
+ghost use Rattle.sota_tables.specs.Views.{HasNode, IsKnownAt};
+ghost use Rattle.sota_polfile.specs.Entry.{IsEntry};
+ghost use Rattle.sota_check.specs.Certified.{IsCertified, value};
+ghost use Rattle.sota_session.specs.Asks.{IsInRange};
+ghost use Rattle.sota_session.specs.Plans.{plan_table};
+ghost use Rattle.sota_session.specs.Rows.{IsPlanned, Agrees, entry_in, row_in};
+
+use crate::ask::Ask;
+use crate::laws::plans_by_least_times;
+use sota_bounds::AskRegion;
+use sota_check::laws::{plans_hold, rows_make_plans};
+use sota_network::Network;
+use sota_network::laws::{lists_by_number, region_by_least_times};
+use sota_polfile::{PolicyEntries, PolicyEntry, PolicyHead, PolicyRow, PolicyTable};
+use sota_tables::Tables;
+use sota_units::{NoMemory, NodeId};
+use std::alloc::Global;
+
+/// The policy of an ask, out of the region that was planned for it and the tables.
+pub(crate) fn policy_of(
+    alloc: Global,
+    network: &Network,
+    ask: &Ask,
+    region: &AskRegion,
+    tables: &Tables,
+) -> Result<PolicyTable, NoMemory>
+    requires in_range { IsInRange network.now ask.now }
+    requires asked { (region.now.origin ≡ ask.now.origin) × (region.now.dest ≡ ask.now.dest)
+        × (region.now.budget ≡ ask.now.budget) }
+    requires planned { IsPlanned region.now tables.now network.now }
+    ensures file { IfOk result (λ table. table ≡ plan_table network.now ask.now) }
+    ensures certified { IfOk result (λ table. IsCertified network.now table) }
+    ensures bound { IfOk result (λ table. value table ask.now.origin ask.now.budget
+        ≡ lo network.now ask.now.dest ask.now.origin ask.now.budget) }
+{
+    lists_by_number();
+    region_by_least_times();
+    plans_by_least_times();
+    rows_make_plans();
+    plans_hold();
+    let rows = rows_of(alloc, network, region, tables)?;
+    let head = PolicyHead {
+        nodes: network.nodes(),
+        dest: ask.dest.get(),
+        origin: ask.origin.get(),
+        budget: ask.budget,
+        scale: network.scale().get(),
+    };
+    Ok(PolicyTable::from_parts(head, rows).unwrap())
+}
+
+/// The rows of all nodes that have one, in rising nodes.
+#[tactic(auto, using(crate::proofs::Ranges::found_more))]
+fn rows_of(
+    alloc: Global,
+    network: &Network,
+    region: &AskRegion,
+    tables: &Tables,
+) -> Result<Vec<PolicyRow>, NoMemory>
+    requires agrees { Agrees region.now tables.now }
+    requires nodes { length tables.now.fronts ≡ network.now.nodes }
+    ensures valid { IfOk result (λ rows. All (λ row. All IsEntry row.entries) rows.items) }
+    ensures made { IfOk result (λ rows.
+        rows.items ≡ filter_map (row_in region.now tables.now)
+        (range_with_len 1 network.now.nodes)) }
+{
+    let needs = region.need.as_slice();
+    let count = needs.iter().filter(|need| **need > 0).count();
+    let mut rows = Vec::with_capacity(alloc, count)?;
+    for node in 1..network.nodes() + 1 {
+        if let Some(row) = row_of(alloc, region, tables, NodeId(node))? {
+            rows.push(row)?;
+        }
+    }
+    Ok(rows)
+}
+
+/// The row of a node. None exactly where it has no pair in the region.
+fn row_of(
+    alloc: Global,
+    region: &AskRegion,
+    tables: &Tables,
+    node: NodeId,
+) -> Result<Option<PolicyRow>, NoMemory>
+    requires agrees { Agrees region.now tables.now }
+    requires node { HasNode tables.now node }
+    ensures made { IfOk result (λ row. row ≡ row_in region.now tables.now node) }
+    ensures valid { IfOk result (λ row. IfSome row (λ row. All IsEntry row.entries)) }
+{
+    let index = node.get() as usize - 1;
+    let need = region.need.as_slice()[index];
+    let Some(first) = region.least.as_slice()[index] else {
+        return Ok(None);
+    };
+    if first >= u64::from(need) {
+        return Ok(None);
+    }
+    let entries = entries_of(alloc, tables, node, first as u32, need)?;
+    Ok(Some(PolicyRow {
+        node: node.get(),
+        first: first as u32,
+        entries,
+    }))
+}
+
+/// The entries of a node from a first budget up to below its need.
+#[tactic(auto, using(crate::proofs::Ranges::mapped_more))]
+fn entries_of(
+    alloc: Global,
+    tables: &Tables,
+    node: NodeId,
+    first: u32,
+    need: u32,
+) -> Result<PolicyEntries, NoMemory>
+    requires budgets { first ≤ need }
+    requires known { (t : ℕ) → t < need → IsKnownAt tables.now node t }
+    ensures made { IfOk result (λ entries.
+        entries ≡ map (entry_in tables.now node) (range_with_len first (need - first))) }
+    ensures valid { IfOk result (λ entries. All IsEntry entries) }
+{
+    let mut entries = Vec::with_capacity(alloc, (need - first) as usize)?;
+    for budget in first..need {
+        entries.push(entry_of(tables, node, budget))?;
+    }
+    Ok(PolicyEntries::new(entries))
+}
+
+/// The entry of a node at a budget.
+fn entry_of(tables: &Tables, node: NodeId, budget: u32) -> PolicyEntry
+    requires { IsKnownAt tables.now node budget }
+    ensures { result ≡ entry_in tables.now node budget }
+{
+    let arc = match tables.choice(node, budget) {
+        Some(arc) => arc.get(),
+        None => 0,
+    };
+    PolicyEntry {
+        arc,
+        value: tables.lower(node, budget).get(),
+    }
+}
