@@ -17,6 +17,8 @@ pub use status::Status;
 pub use top::run;
 
 #[cfg(test)]
-mod check_tests;
+mod test_files;
+#[cfg(test)]
+mod test_runs;
 #[cfg(test)]
 mod tests;
