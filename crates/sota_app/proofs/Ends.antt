@@ -13,7 +13,7 @@ use Rattle.sota_app.specs.Replies.{some_refused, lines_status}
 use Rattle.sota_app.specs.Verdicts.{verdict_status}
 use Rattle.sota_app.specs.Script.{replies_to}
 use Rattle.sota_app.specs.InputFaults.{fault_line}
-use Rattle.sota_app.specs.Outcome.{Outcome, outcome_of, Job, play, judge, Work, work_of}
+use Rattle.sota_app.specs.Outcome.{Outcome, outcome_of, Job, play, judge, replay, Work, work_of}
 use Rattle.sota_app.specs.Outcome.{job_outcome, work_outcome, refused_words}
 use Rattle.sota_app.specs.Causes.{Cause, Ended, Delivered, Known, Took, UnreadInput, Stands}
 use Rattle.sota_app.specs.Causes.{CanMiss, status_of}
@@ -131,6 +131,8 @@ done_cause : (net : Net) (job : Job) (request : Request) (d e : DeskState) (s t 
 done_cause net (play lines) request d e s t stands =
     lines_cause (some_refused (replies_to net lines)) request d e s t stands
 done_cause net (judge table) request d e s t stands =
+    verdict_cause (rejection net table) request d e s t stands
+done_cause net (replay table trips) request d e s t stands =
     verdict_cause (rejection net table) request d e s t stands
 
 ok_cause : (work : Work) (request : Request) (result : Result Status Stop) (d e : DeskState)

@@ -6,7 +6,7 @@ use Rattle.sota_edge.specs.Desk.{Files, DeskState}
 use Rattle.sota_edge.specs.Sink.{SinkState}
 use Rattle.sota_app.specs.Outputs.{LineEnds}
 use Rattle.sota_app.specs.InputFaults.{fault_line}
-use Rattle.sota_app.specs.Outcome.{Job, play, judge, Work}
+use Rattle.sota_app.specs.Outcome.{Job, play, judge, replay, Work}
 use Rattle.sota_app.specs.Script.{ScriptLine, ask_on, script_lines}
 use Rattle.sota_app.specs.Causes.{Known, Took, IsOfText}
 use Rattle.sota_app.specs.declared.inputs.Script.{Script}
@@ -28,6 +28,7 @@ lines_of (scripts.Text script) = script_lines script.items
 abbrev pub job_of : TaskJob → Job
 job_of (jobs.Play script) = play (lines_of script)
 job_of (jobs.Judge table) = judge table
+job_of (jobs.Replay table trips) = replay table trips
 
 abbrev pub task_work : Task → Work
 task_work task = record { net = task.network; job = job_of task.job }
@@ -40,6 +41,7 @@ IsShort (scripts.Text script) = length script.items ≤ TEXT_LIMIT
 abbrev pub IsShortJob : TaskJob → Type 0
 IsShortJob (jobs.Play script) = IsShort script
 IsShortJob (jobs.Judge table) = Unit {0}
+IsShortJob (jobs.Replay table trips) = Unit {0}
 
 -- nothing changed in the desk but what was taken
 pub record OnlyTook (old new : DeskState) : Type 0 where

@@ -17,7 +17,7 @@ use Rattle.sota_check.specs.Rejected.{rejection}
 use Rattle.sota_app.specs.Words.{request_of}
 use Rattle.sota_app.specs.Outputs.{Output, only_line}
 use Rattle.sota_app.specs.Replies.{outputs_of, replies_status}
-use Rattle.sota_app.specs.Verdicts.{verdict_line, verdict_status}
+use Rattle.sota_app.specs.Verdicts.{verdict_line, replay_line, verdict_status}
 use Rattle.sota_app.specs.Script.{ScriptLine, ask_on, script_lines, replies_to}
 use Rattle.sota_app.specs.InputFaults.{input_limit, fault_line}
 use Rattle.sota_app.specs.declared.reply.Reply.{Reply}
@@ -27,6 +27,7 @@ use Rattle.sota_app.specs.declared.input.InputFault.{InputFault}
 use Rattle.sota_app.specs.declared.input.InputFault.TheVariants as faults
 use Rattle.sota_app.specs.declared.input.NoInput.{NoInput}
 use Rattle.sota_app.specs.declared.input.NoInput.TheVariants as ends
+use Rattle.sota_app.specs.declared.words.Trips.{Trips}
 use Rattle.sota_app.specs.declared.words.Request.{Request}
 use Rattle.sota_app.specs.declared.words.Request.TheVariants as requests
 use Rattle.sota_app.specs.declared.status.Status.{Status}
@@ -84,10 +85,12 @@ table_of name files = input_bytes inputs.Policy (files name) >>= read_table
 
 -- ---- requests
 
--- what is to be done on a network: lines are to be played, or a policy is to be judged
+-- what is to be done on a network: lines are to be played, or a policy is to be judged, or trips
+-- are to follow it besides
 pub data Job : Type 0 where
   play : List ScriptLine → Job
   judge : Table → Job
+  replay : Table → Trips → Job
 
 pub record Work : Type 0 where
   pub net : Net
@@ -100,12 +103,16 @@ work_of (requests.Ask ask) files = do
   Ok (record { net = net; job = play (ask_on 1 ask.ask ∷ []) })
 work_of (requests.Run run) files = do
   net ← network_of run.graph run.hists files
-  script ← script_of run.script files
+  script ← script_of run.file files
   Ok (record { net = net; job = play (script_lines script) })
 work_of (requests.Check check) files = do
   net ← network_of check.graph check.hists files
-  table ← table_of check.policy files
+  table ← table_of check.file files
   Ok (record { net = net; job = judge table })
+work_of (requests.Replay words) files = do
+  net ← network_of words.names.graph words.names.hists files
+  table ← table_of words.names.file files
+  Ok (record { net = net; job = replay table words.trips })
 
 -- ---- outcomes
 
@@ -124,9 +131,17 @@ judged net table = record {
   status = verdict_status (rejection net table);
 }
 
+-- the tally of trips, where the policy is not rejected
+abbrev pub replayed : Net → Table → Trips → Outcome
+replayed net table trips = record {
+  outputs = only_line (replay_line net table trips (rejection net table));
+  status = verdict_status (rejection net table);
+}
+
 abbrev pub job_outcome : Net → Job → Outcome
 job_outcome net (play lines) = replied (replies_to net lines)
 job_outcome net (judge table) = judged net table
+job_outcome net (replay table trips) = replayed net table trips
 
 -- an input that is not accepted; want of memory is never the meaning of files
 abbrev pub no_input : NoInput → Outcome

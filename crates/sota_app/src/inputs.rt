@@ -11,7 +11,7 @@ ghost use Rattle.sota_app.specs.Causes.{Unread, UnreadHists, UnreadNetwork, Unre
 ghost use Rattle.sota_app.specs.Inputs.{TextAnswers, InputAnswers, task_work, IsShortJob};
 
 use crate::input::{Input, InputFault, NoInput};
-use crate::words::Request;
+use crate::words::{Request, Trips};
 use sota_dimacs::{GraphFault, RawGraph, read_graph};
 use sota_edge::{Desk, LoadError};
 use sota_histcsv::{HistFileFault, certain_network, read_histograms};
@@ -34,6 +34,8 @@ pub enum Job {
     Play(Script),
     /// A policy is to be judged.
     Judge(PolicyTable),
+    /// Trips are to follow a policy.
+    Replay(PolicyTable, Trips),
 }
 
 /// Lines that are to be played.
@@ -185,13 +187,19 @@ pub fn load_task<D: Desk>(
         }
         Request::Run(words) => {
             let network = load_network(alloc, words.graph, words.hists, desk)?;
-            let text = load_input(alloc, Input::Script, words.script, desk)?;
+            let text = load_input(alloc, Input::Script, words.file, desk)?;
             let job = Job::Play(Script::Text(text));
             Ok(Task { network, job })
         }
         Request::Check(words) => {
             let network = load_network(alloc, words.graph, words.hists, desk)?;
-            let job = Job::Judge(load_policy(alloc, words.policy, desk)?);
+            let job = Job::Judge(load_policy(alloc, words.file, desk)?);
+            Ok(Task { network, job })
+        }
+        Request::Replay(words) => {
+            let names = &words.names;
+            let network = load_network(alloc, names.graph, names.hists, desk)?;
+            let job = Job::Replay(load_policy(alloc, names.file, desk)?, words.trips);
             Ok(Task { network, job })
         }
     }

@@ -27,7 +27,7 @@ const TIGHT_POLICY: &[u8] = b"SOTAPOL1\0\0\0\x02\0\0\0\x02\0\0\0\x01\0\0\0\x04\0
 const STUCK_POLICY: &[u8] = b"SOTAPOL1\0\0\0\x02\0\0\0\x02\0\0\0\x01\0\0\0\x04\0\0\0\x01\0\0\0\0";
 
 /// Each by its name.
-pub(crate) const FILES: [(&str, &[u8]); 48] = [
+pub(crate) const FILES: [(&str, &[u8]); 49] = [
     // Graphs.
     ("triangle", TRIANGLE),
     ("road", b"p sp 2 1\na 1 2 5\n"),
@@ -86,6 +86,7 @@ pub(crate) const FILES: [(&str, &[u8]); 48] = [
     ("tight", b"ask 1 3 1"),
     ("stored", b"policy 1 3 3 p.pol"),
     ("road_stored", b"policy 1 2 5 q"),
+    ("lossy_stored", b"policy 1 2 9 l"),
     (
         "several",
         b"ask 1 3 2\nedit 2 1:4\nask 1 3 2\npolicy 1 3 3 p\n",

@@ -1,7 +1,7 @@
 // Transcripts of runs. A run has its words after `>`, then what is written, and `=` before the
 // status.
 
-/// Of asks, of scripts and of policies that are judged.
+/// Of asks, of scripts, and of policies that are judged and followed.
 pub(crate) const RUNS: &str = "> ask triangle - 1 3 2
 answer 1 3 2 1.000000000000000000 1.000000000000000000 1
 = 0
@@ -283,6 +283,47 @@ refused words
 > check road - road_plan road_plan
 refused words
 = 2
+> replay road - road_plan 5 7
+trips 5 arrived 5 late 0 stuck 0 lost 0
+= 0
+> replay road - tight_plan 3 1
+trips 3 arrived 0 late 3 stuck 0 lost 0
+= 0
+> replay road - stuck_plan 3 4294967295
+trips 3 arrived 0 late 0 stuck 3 lost 0
+= 0
+> run road late lossy_stored
+stored l
+= 0
+> replay road late l 1000 7
+trips 1000 arrived 767 late 0 stuck 0 lost 233
+= 0
+> replay road late l 0 7
+trips 0 arrived 0 late 0 stuck 0 lost 0
+= 0
+> replay triangle times value_plan 3 1
+rejected Value 2 1
+= 1
+> replay triangle times scale_plan 3 1
+rejected Scale
+= 1
+> replay road empty empty 1 1
+refused hists Header 0
+= 3
+> replay road - empty 1 1
+refused policy Magic 0
+= 3
+> replay road - nowhere 1 1
+= 4
+> replay road - road_plan 1000001 1
+refused words
+= 2
+> replay road - road_plan 1 4294967296
+refused words
+= 2
+> replay road - road_plan 1
+refused words
+= 2
 ";
 
 /// Of runs in which a call fails. Before the words stand the call of the desk that fails and the
@@ -354,4 +395,13 @@ answer 1 3 1 0.000000000000000000 0.000000000000000000 -
 > 4 0 1000 run triangle times tight
 answer 1 3 1 0.000000000000000000 0.000000000000000000 -
 = 0
+> 2 0 1000 replay road - road_plan 5 7
+= 4
+> 3 0 1000 replay road - road_plan 5 7
+trips 5 arrived 5 late 0 stuck 0 lost 0
+= 0
+> 0 1 1000 replay road - road_plan 5 7
+= 5
+> 0 7 1 replay road - road_plan 5 7
+trips = 5
 ";

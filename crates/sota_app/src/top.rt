@@ -10,8 +10,10 @@ ghost use Rattle.sota_app.specs.Inputs.{NoInputWritten, IsShortJob, job_of};
 ghost use Rattle.sota_app.specs.Outcome.{outcome, refused_words, job_outcome};
 ghost use Rattle.sota_app.specs.Causes.{Ended, Delivered, NoFault, status_of};
 ghost use Rattle.sota_app.specs.Meaning.{AskLine, IsAnswered, Meant, IsJudged, Attested};
+ghost use Rattle.sota_app.specs.Meaning.{IsReplayed, Replayed};
+ghost use Rattle.sota_app.specs.declared.words.Trips.{Trips};
 
-use crate::checking::check_policy;
+use crate::checking::{check_policy, replay_policy};
 use crate::input::NoInput;
 use crate::inputs::{Job, Task, load_task};
 use crate::output::write_line;
@@ -77,6 +79,7 @@ fn do_job<D: Desk, O: Sink, P: Ledger>(
             play_lines::<D, O, Brand, P>(alloc, network, &script, desk, out, blank, pushes)
         }
         Job::Judge(table) => check_policy(alloc, &network, &table, out),
+        Job::Replay(table, trips) => replay_policy(alloc, &network, &table, trips, out),
     }
 }
 
@@ -136,6 +139,13 @@ pub fn run<D: Desk, O: Sink, P: Ledger>(
         → (D.state desk.old).holds ≡ Some files → result ≡ Status.Done
         → IsJudged (map string_bytes words.now) files net table
         → Attested net table (O.state out.old) (O.state out.new) }
+
+    // And where trips were to follow a policy and all is done, it holds, and each of the trips by
+    // the words of the seed was counted once.
+    ensures replayed { (files : Files) (net : Net) (table : Table) (trips : Trips)
+        → (D.state desk.old).holds ≡ Some files → result ≡ Status.Done
+        → IsReplayed (map string_bytes words.now) files net table trips
+        → Replayed net table trips (O.state out.old) (O.state out.new) }
 {
     texts_mean_graphs();
     texts_mean_networks();

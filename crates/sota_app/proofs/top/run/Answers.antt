@@ -4,7 +4,9 @@ use Rattle.sota_edge.specs.Sink.{SinkState}
 use Rattle.sota_network.specs.Network.{IsNet}
 use Rattle.sota_session.specs.Asks.{answer_of}
 use Rattle.sota_app.specs.Script.{session_ask}
+use Rattle.sota_words.specs.Drawn.{words_of}
 use Rattle.sota_app.specs.Words.{request_of}
+use Rattle.sota_app.specs.Verdicts.{named, accepted_line}
 use Rattle.sota_check.specs.Certified.{rule, IsCertified}
 use Rattle.sota_app.specs.Outcome.{outcome, judge}
 use Rattle.sota_app.specs.Causes.{Delivered, Ended}
@@ -13,7 +15,7 @@ use Rattle.sota_app.specs.declared.status.Status.{Status}
 use Rattle.sota_app.specs.declared.status.Status.TheVariants.{Done}
 use Rattle.sota_app.proofs.Exact.{exact, done_stands}
 use Rattle.sota_app.proofs.Answered.{means_network, line_written, line_valid}
-use Rattle.sota_app.proofs.Judged.{IsPassed, judged_done}
+use Rattle.sota_app.proofs.Judged.{IsPassed, judged_done, tally_line, replayed_done, all_counted}
 use Rattle.sota_app.proofs.top.run.Goals as goal
 
 pub returns-in-Ok-clause-exact : goal.returns-in-Ok-clause-exact
@@ -72,7 +74,7 @@ returns-in-Ok-clause-accepted g c = λ files net table tells is judged.
     subst (λ (status : Status). Ended status (request_of words) d e s t) is c.in-Ok.ensures in
     let all : Delivered (outcome words files) Done d e s t =
     done_stands (request_of words) files d e s t tells ended.cause in
-    let passed : IsPassed net table s t =
+    let passed : IsPassed net table (accepted_line (named table)) s t =
     judged_done net table (request_of words) files d e s t judged all in
     let valid : IsNet net =
     means_network c.texts_mean_graphs.ensures c.texts_mean_networks.ensures.text
@@ -89,4 +91,22 @@ returns-in-Ok-clause-accepted g c = λ files net table tells is judged.
       attains = c.certified_attains.ensures.attains net table head.origin head.budget valid
           holds;
       whole = c.certified_attains.ensures.whole net table head.origin head.budget valid holds;
+    }
+
+pub returns-in-Ok-clause-replayed : goal.returns-in-Ok-clause-replayed
+returns-in-Ok-clause-replayed g c = λ files net table trips tells is asked.
+    let words : List (List ℕ) = map (λ word. string_bytes word) c.args.words.now in
+    let d : DeskState = g.D.Desk.state c.args.desk.now in
+    let e : DeskState = g.D.Desk.state c.serve.new.desk in
+    let s : SinkState = g.O.Sink.state c.args.out.now in
+    let t : SinkState = g.O.Sink.state c.serve.new.out in
+    let ended : Ended Done (request_of words) d e s t =
+    subst (λ (status : Status). Ended status (request_of words) d e s t) is c.in-Ok.ensures in
+    let passed : IsPassed net table (tally_line net table trips) s t =
+    replayed_done net table trips (request_of words) files d e s t asked
+    (done_stands (request_of words) files d e s t tells ended.cause) in
+    record {
+      written = passed.written;
+      whole = all_counted net table trips.count (words_of trips.seed);
+      holds = c.passed_policies_hold.ensures.holds net table passed.none;
     }
