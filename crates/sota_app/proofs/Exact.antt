@@ -86,6 +86,7 @@ unread_work (requests.Check check) files d e tells calm h =
 unread_work (requests.Replay words) files d e tells calm h =
     unread_last words.names (table_of words.names.file files) _ files d e tells calm
     (λ (none : files words.names.file ≡ None). rw none refl) h
+unread_work (requests.Make make) files d e tells calm h = absurd h
 
 unread_outcome : (o : Option Request) (files : Files) (d e : DeskState) (s t : SinkState)
     → d.holds ≡ Some files → NoFault d e s t → t ≡ s → e.holds ≡ d.holds

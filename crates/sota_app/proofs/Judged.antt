@@ -44,11 +44,12 @@ by_cause net table line_of None d e s t is all = record {
 by_cause net table line_of (Some cause) d e s t is all =
     absurd (let done = all.status_is in cc)
 
-delivered : (o : Option Request) (files : Files) (work : Work) (d e : DeskState)
-    (s t : SinkState) → Means o files work → Delivered (outcome_of o files) Done d e s t
-    → Delivered (work_outcome (Ok work)) Done d e s t
-delivered o files work d e s t means all =
-    subst (λ (outcome : Outcome). Delivered outcome Done d e s t)
+pub delivered : (o : Option Request) (files : Files) (work : Work) (status : Status)
+    (d e : DeskState) (s t : SinkState) → Means o files work
+    → Delivered (outcome_of o files) status d e s t
+    → Delivered (work_outcome (Ok work)) status d e s t
+delivered o files work status d e s t means all =
+    subst (λ (outcome : Outcome). Delivered outcome status d e s t)
     (work_done o files work means) all
 
 pub judged_done : (net : Net) (table : Table) (o : Option Request) (files : Files)
@@ -57,7 +58,7 @@ pub judged_done : (net : Net) (table : Table) (o : Option Request) (files : File
     → IsPassed net table (accepted_line (named table)) s t
 judged_done net table o files d e s t means all =
     by_cause net table (verdict_line table) (rejection net table) d e s t refl
-    (delivered o files _ d e s t means all)
+    (delivered o files _ Done d e s t means all)
 
 abbrev pub tally_line : Net → Table → Trips → List ℕ
 tally_line net table trips =
@@ -70,7 +71,7 @@ pub replayed_done : (net : Net) (table : Table) (trips : Trips) (o : Option Requ
     → IsPassed net table (tally_line net table trips) s t
 replayed_done net table trips o files d e s t means all =
     by_cause net table (replay_line net table trips) (rejection net table) d e s t refl
-    (delivered o files _ d e s t means all)
+    (delivered o files _ Done d e s t means all)
 
 -- ---- each trip is counted once
 

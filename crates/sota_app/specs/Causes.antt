@@ -61,6 +61,7 @@ UnreadInput (requests.Ask ask) old new = UnreadNetwork ask.graph ask.hists old n
 UnreadInput (requests.Run run) old new = UnreadLast run old new
 UnreadInput (requests.Check check) old new = UnreadLast check old new
 UnreadInput (requests.Replay words) old new = UnreadLast words.names old new
+UnreadInput (requests.Make make) old new = ⊥
 
 -- a fault of what stands in a text; want of memory is none
 abbrev pub IsOfText : InputFault → Type 0

@@ -1,13 +1,15 @@
 -- The requests and their words.
 use Rattle.std.specs.Prelude.{ℕ, List, [], ◌∷◌, Option, Some, None, option_map, option_and_then}
-use Rattle.std.specs.Prelude.{nat_le, if◌then◌else◌, codes}
+use Rattle.std.specs.Prelude.{◌≡◌, true, nat_le, if◌then◌else◌, codes}
 use Rattle.std.specs.Str.{bytes_eq}
 use Rattle.sota_text.specs.Text.{number_of}
 use Rattle.sota_text.specs.Words.{three}
+use Rattle.sota_make.specs.Made.{is_size}
 use Rattle.sota_script.specs.declared.command.Ask3.{Ask3}
 use Rattle.sota_app.specs.Requests.{AskRequest, FileRequest}
 use Rattle.sota_app.specs.declared.words.ReplayWords.{ReplayWords}
 use Rattle.sota_app.specs.declared.words.Trips.{Trips}
+use Rattle.sota_app.specs.declared.words.MakeWords.{MakeWords}
 use Rattle.sota_app.specs.declared.words.Request.{Request}
 use Rattle.sota_app.specs.declared.words.Request.TheVariants as requests
 
@@ -57,6 +59,23 @@ replay_request words =
       trips = trips;
     }) (trips_of word.3 word.4)) (five words)
 
+-- 'SEED NODES ARCS SPAN T'
+abbrev pub make_of : List ℕ → List ℕ → List ℕ → List ℕ → List ℕ → Option MakeWords
+make_of seed nodes arcs span budget =
+    option_and_then (λ s. option_and_then (λ n. option_and_then (λ a. option_and_then (λ p.
+    option_map (λ t. record { seed = s; nodes = n; arcs = a; span = p; budget = t })
+    (number_of budget)) (number_of span)) (number_of arcs)) (number_of nodes)) (number_of seed)
+
+-- numbers of which a network is made
+abbrev pub if_sized : MakeWords → Option MakeWords
+if_sized make = if is_size make.nodes make.arcs make.span then Some make else None
+
+-- 'SEED NODES ARCS SPAN T' after 'make'
+abbrev pub make_request : List (List ℕ) → Option MakeWords
+make_request words =
+    option_and_then if_sized
+    (option_and_then (λ word. make_of word.0 word.1 word.2 word.3 word.4) (five words))
+
 -- the request of the words after the program's name, where they are one: the first word decides
 abbrev pub request_of : List (List ℕ) → Option Request
 request_of [] = None
@@ -69,4 +88,11 @@ request_of (first ∷ words) =
     option_map (λ request. requests.Check request) (file_request words)
     else (if bytes_eq first (codes "replay") then
     option_map (λ request. requests.Replay request) (replay_request words)
-    else None)))
+    else (if bytes_eq first (codes "make") then
+    option_map (λ request. requests.Make request) (make_request words)
+    else None))))
+
+-- a network is made of the numbers of the request, where it has those
+abbrev pub IsSized : Request → Type 0
+IsSized (requests.Make make) = is_size make.nodes make.arcs make.span ≡ true
+IsSized _ = Unit {0}

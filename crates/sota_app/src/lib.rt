@@ -8,6 +8,7 @@ pub mod laws;
 mod output;
 mod player;
 mod reply;
+mod showing;
 mod status;
 mod stop;
 mod top;

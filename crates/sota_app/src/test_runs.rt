@@ -1,7 +1,7 @@
 // Transcripts of runs. A run has its words after `>`, then what is written, and `=` before the
 // status.
 
-/// Of asks, of scripts, and of policies that are judged and followed.
+/// Of asks, of scripts, of policies that are judged and followed, and of networks that are made.
 pub(crate) const RUNS: &str = "> ask triangle - 1 3 2
 answer 1 3 2 1.000000000000000000 1.000000000000000000 1
 = 0
@@ -324,6 +324,65 @@ refused words
 > replay road - road_plan 1
 refused words
 = 2
+> make 1 2 2 1 20
+made 2 2 16 236
+answer 1 2 20 1.000000000000000000 1.000000000000000000 1
+accepted 1 2 20 1.000000000000000000
+= 0
+> make 7 4 9 5 10
+made 4 9 8 152
+answer 1 4 10 0.324942679000000000 0.324942679000000000 1
+accepted 1 4 10 0.324942679000000000
+= 0
+> make 3 5 12 4 16
+made 5 12 14 248
+answer 1 5 16 0.265055931811919640 0.265055931811919640 11
+accepted 1 5 16 0.265055931811919640
+= 0
+> make 1 2 2 1 0
+made 2 2 0 32
+answer 1 2 0 0.000000000000000000 0.000000000000000000 -
+accepted 1 2 0 0.000000000000000000
+= 0
+> make 1 2 2 1 65536
+refused 1 Budget
+= 1
+> make 1 10000 10000 1 65535
+refused 1 TableCells 108939105
+= 1
+> make 1 2 2000 33 65535
+refused 1 BroadCells 64518912
+= 1
+> make 1 1 2 1 20
+refused words
+= 2
+> make 1 10001 10001 1 20
+refused words
+= 2
+> make 1 3 2 1 20
+refused words
+= 2
+> make 1 2 100001 1 20
+refused words
+= 2
+> make 1 2 2 0 20
+refused words
+= 2
+> make 1 2 2 1001 20
+refused words
+= 2
+> make 1 2 10001 1000 20
+refused words
+= 2
+> make 4294967296 2 2 1 20
+refused words
+= 2
+> make 1 2 2 1 x
+refused words
+= 2
+> make 1 2 2 1
+refused words
+= 2
 ";
 
 /// Of runs in which a call fails. Before the words stand the call of the desk that fails and the
@@ -404,4 +463,18 @@ trips 5 arrived 5 late 0 stuck 0 lost 0
 = 5
 > 0 7 1 replay road - road_plan 5 7
 trips = 5
+> 1 0 1000 make 1 2 2 1 20
+made 2 2 16 236
+answer 1 2 20 1.000000000000000000 1.000000000000000000 1
+accepted 1 2 20 1.000000000000000000
+= 0
+> 0 1 1000 make 1 2 2 1 20
+= 5
+> 0 2 1000 make 1 2 2 1 20
+made 2 2 16 236
+= 5
+> 0 3 1000 make 1 2 2 1 20
+made 2 2 16 236
+answer 1 2 20 1.000000000000000000 1.000000000000000000 1
+= 5
 ";

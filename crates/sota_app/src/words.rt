@@ -1,9 +1,13 @@
 // The words of the command line.
-ghost use Rattle.std.specs.Prelude.{◌≡◌, map, string_bytes, option_map};
+ghost use Rattle.std.specs.Prelude.{◌≡◌, true, map, string_bytes, option_map, IfSome};
+ghost use Rattle.sota_make.specs.Made.{is_size};
 ghost use Rattle.sota_app.specs.Words.{ask_of, ask_request, file_request};
-ghost use Rattle.sota_app.specs.Words.{trips_of, replay_request, request_of, five};
+ghost use Rattle.sota_app.specs.Words.{trips_of, replay_request, make_of, make_request};
+ghost use Rattle.sota_app.specs.Words.{request_of, five, IsSized};
+ghost use Rattle.sota_app.specs.Shown.{ask_made};
 ghost use Rattle.sota_text.specs.Words.{three};
 
+use sota_make::is_size;
 use sota_script::Ask3;
 use sota_text::read_u32;
 use std::marker::Model;
@@ -65,6 +69,29 @@ pub struct ReplayWords<'a> {
     pub trips: Trips,
 }
 
+/// The words `make SEED NODES ARCS SPAN T`: the numbers of a network, and a budget.
+#[derive(Clone, Copy, Debug, PartialEq, Eq)]
+pub struct MakeWords {
+    pub seed: u32,
+    pub nodes: u32,
+    pub arcs: u32,
+    pub span: u32,
+    pub budget: u32,
+}
+
+impl MakeWords {
+    /// The ask from the first node to the last one.
+    pub fn ask(&self) -> Ask3
+        ensures { result ≡ ask_made self.now }
+    {
+        Ask3 {
+            origin: 1,
+            dest: self.nodes,
+            budget: self.budget,
+        }
+    }
+}
+
 /// What the words ask for.
 #[derive(Drop)]
 pub enum Request<'a> {
@@ -76,11 +103,14 @@ pub enum Request<'a> {
     Check(FileWords<'a>),
     /// How trips end that follow a policy.
     Replay(ReplayWords<'a>),
+    /// The plan of a network that is made.
+    Make(MakeWords),
 }
 
 /// The request of the words after the program's name. None exactly where they are no request.
 pub fn read_words(words: &[String]) -> Option<Request<'_>>
-    ensures { result ≡ request_of (map string_bytes words.now) }
+    ensures request { result ≡ request_of (map string_bytes words.now) }
+    ensures sized { IfSome result IsSized }
 {
     let (first, rest) = words.split_first()?;
     if first.as_str() == "ask" {
@@ -91,6 +121,8 @@ pub fn read_words(words: &[String]) -> Option<Request<'_>>
         Some(Request::Check(read_file_words(rest)?))
     } else if first.as_str() == "replay" {
         Some(Request::Replay(read_replay_words(rest)?))
+    } else if first.as_str() == "make" {
+        Some(Request::Make(read_make_words(rest)?))
     } else {
         None
     }
@@ -170,4 +202,30 @@ fn read_trips(count: &str, seed: &str) -> Option<Trips>
     }
     let seed = read_u32(seed.as_bytes())?;
     Some(Trips { count, seed })
+}
+
+/// The words `SEED NODES ARCS SPAN T`. None where no network is made of such numbers.
+fn read_make_words(words: &[String]) -> Option<MakeWords>
+    ensures request { result ≡ make_request (map string_bytes words.now) }
+    ensures sized { IfSome result (λ make. is_size make.nodes make.arcs make.span ≡ true) }
+{
+    let (seed, nodes, arcs, span, budget) = five_words(words)?;
+    let make = read_make(seed, nodes, arcs, span, budget)?;
+    if !is_size(make.nodes, make.arcs, make.span) {
+        return None;
+    }
+    Some(make)
+}
+
+/// Five numbers.
+fn read_make(seed: &str, nodes: &str, arcs: &str, span: &str, budget: &str) -> Option<MakeWords>
+    ensures { result ≡ make_of seed.now nodes.now arcs.now span.now budget.now }
+{
+    Some(MakeWords {
+        seed: read_u32(seed.as_bytes())?,
+        nodes: read_u32(nodes.as_bytes())?,
+        arcs: read_u32(arcs.as_bytes())?,
+        span: read_u32(span.as_bytes())?,
+        budget: read_u32(budget.as_bytes())?,
+    })
 }

@@ -20,3 +20,8 @@ returns-in-Replay-clause-made g c =
     let s : SinkState = g.O.Sink.state c.args.out.now in
     rw is (only_line_ends c.replay_policy.result _ d d s _ refl (omega arith)
     c.replay_policy.ensures.line)
+
+pub returns-in-Show-clause-made : goal.returns-in-Show-clause-made
+returns-in-Show-clause-made g c =
+    let is : c.args.job ≡ jobs.Show c.in-Show.ask = search rules in
+    rw is (c.show_plan.ensures.made (g.D.Desk.state c.args.desk.now))
