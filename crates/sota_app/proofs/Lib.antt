@@ -10,4 +10,8 @@ pub mod Ends
 pub mod EachLine
 pub mod Answered
 pub mod Judged
+pub mod Sized
+pub mod PlanCells
+pub mod ShownPlan
+pub mod ThreeLines
 pub mod Prefixes

@@ -40,7 +40,7 @@ struct Player<'s, 'd, 'o, 'm, 'p, D: Desk, O: Sink, M: Ledger, P: Ledger> {
 }
 
 /// The ask of these numbers.
-fn session_ask(ask: Ask3) -> Ask
+pub fn session_ask(ask: Ask3) -> Ask
     ensures { result ≡ session_ask ask }
 {
     Ask {
@@ -51,7 +51,7 @@ fn session_ask(ask: Ask3) -> Ask
 }
 
 /// The reply to a refused line of this number. A line for which memory was wanted gets none.
-fn refuse(number: u32, refusal: Refusal) -> Result<Reply, NoMemory>
+pub fn refuse(number: u32, refusal: Refusal) -> Result<Reply, NoMemory>
     ensures { IfOk result (λ reply.
         (is_shortage refusal ≡ false) × (reply ≡ Refused number refusal)) }
 {

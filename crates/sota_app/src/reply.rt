@@ -146,7 +146,7 @@ fn push_count(text: &mut TextOut, count: Option<u64>) -> Result<(), NoMemory>
 }
 
 /// The line `answer O D T LOWER UPPER ARC`.
-fn write_answer(alloc: Global, ask: &Ask, answer: &Answer) -> Result<TextOut, NoMemory>
+pub fn write_answer(alloc: Global, ask: &Ask, answer: &Answer) -> Result<TextOut, NoMemory>
     ensures { IfOk result (λ text. text ≡ answer_line ask.now answer.now) }
 {
     let mut text = TextOut::new(alloc);
