@@ -25,8 +25,8 @@ route_value round net dest (e ∷ rest) t = elim (arc_at net e) [
 ]
 
 -- rounded down and rounded up
-abbrev pub answer_of : Net → ℕ → List ℕ → ℕ → RouteAnswer
-answer_of net dest route t = record {
+abbrev pub route_answer : Net → ℕ → List ℕ → ℕ → RouteAnswer
+route_answer net dest route t = record {
   lower = route_value floor_by net dest route t;
   upper = route_value ceiling_by net dest route t;
 }
@@ -34,7 +34,7 @@ answer_of net dest route t = record {
 -- what a route is answered, or why it is refused
 abbrev pub route_result : Net → ℕ → ℕ → List ℕ → Result RouteAnswer RouteFault
 route_result net dest budget route = elim (route_fault net dest budget route) [
-  | None ↦ Ok (answer_of net dest route budget)
+  | None ↦ Ok (route_answer net dest route budget)
   | Some fault ↦ Err fault
 ]
 
