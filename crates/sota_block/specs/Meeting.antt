@@ -1,7 +1,7 @@
 -- The products that meet at a place of two blocks, and their halves: of a product of a mass and a
 -- value of 64 bits, lanes of 64 bits hold what the value's lower half gives and what its upper half
 -- gives.
-use Rattle.std.specs.Prelude.{ℕ, ◌+◌, ◌-◌, ◌*◌, ◌/◌, ◌%◌, ◌&&◌, nat_le, nat_lt, if◌then◌else◌}
+use Rattle.std.specs.Prelude.{ℕ, ◌≡◌, ◌<◌, ◌≤◌, ◌+◌, ◌-◌, ◌*◌, ◌/◌, ◌%◌, ◌&&◌, nat_le, nat_lt, if◌then◌else◌}
 use Rattle.std.specs.Prelude.{List, length, slice_index}
 use Rattle.sota_block.specs.Product.{sum_below}
 
@@ -36,3 +36,11 @@ meeting_highs masses values place =
 abbrev pub crossed_by : (ℕ → ℕ) → List ℕ → List ℕ → ℕ → ℕ
 crossed_by part masses values place = sum_below (length masses)
     (λ b. slice_index masses b * part (slice_index values (place - b)))
+
+-- A list that says at each place where the next mass that is not 0 may stand: all before that place
+-- are 0. Its places are counted from `shift` on, as those of a part of a longer list are
+pub record IsSkips (masses skips : List ℕ) (shift : ℕ) : Type 0 where
+  pub long : length skips ≡ length masses
+  pub forward : (b : ℕ) → b < length masses → shift + b ≤ slice_index skips b
+  pub zeros : (b i : ℕ) → b < length masses → b ≤ i → shift + i < slice_index skips b
+      → slice_index masses i ≡ 0
