@@ -47,7 +47,8 @@ pub(crate) fn work_off<M: Ledger>(
         → Holds (numbered masses.now) (λ a. slice_index values.now a)
         (λ r. reached first (length values.now) r) LEVELS p
         (slice_index low.new p) (slice_index high.new p) }
-    ensures count { products.new ≤ products.old + square_counts (length masses.now) (length values.now) }
+    ensures count { products.new
+        ≤ products.old + square_counts (length masses.now) (length values.now) }
 {
     let known = values.len();
     let mut size = smallest;

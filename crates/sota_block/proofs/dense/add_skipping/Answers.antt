@@ -20,7 +20,7 @@ add_lows-low_sums-requires c = record {
       let next : ℕ = slice_index_or c.args.skips.now c.loop-b.b 0 - c.args.shift in
       let more = skip-more low_half xs c.args.skips.now vs c.args.shift (c.args.at + j) c.loop-b.b next c.requires.skips c.loop-b-test.true refl c.from-mass.result (slice_index (chunk (c.args.at - next) 8 vs) j) c.if-next-masses.true c.from-mass.ensures (lane c.args.at next j vs below (omega arith)) in
       let all = sum_below-le (next + 1) (length xs) (λ i. get_or xs i 0 * low_half (get_or vs (c.args.at + j - i) 0)) (omega arith) in
-      omega (arith, more, all, c.loop-b.invariant.low j below, c.requires.low_fits j below);
+      omega (arith, more, all, c.loop-b.invariant.low j below, c.requires.eight.low_fits j below);
 }
 
 pub add_highs-high_sums-requires : goal.add_highs-high_sums-requires
@@ -31,7 +31,7 @@ add_highs-high_sums-requires c = record {
       let next : ℕ = slice_index_or c.args.skips.now c.loop-b.b 0 - c.args.shift in
       let more = skip-more high_half xs c.args.skips.now vs c.args.shift (c.args.at + j) c.loop-b.b next c.requires.skips c.loop-b-test.true refl c.from-mass.result (slice_index (chunk (c.args.at - next) 8 vs) j) c.if-next-masses.true c.from-mass.ensures (lane c.args.at next j vs below (omega arith)) in
       let all = sum_below-le (next + 1) (length xs) (λ i. get_or xs i 0 * high_half (get_or vs (c.args.at + j - i) 0)) (omega arith) in
-      omega (arith, more, all, c.loop-b.invariant.high j below, c.requires.high_fits j below);
+      omega (arith, more, all, c.loop-b.invariant.high j below, c.requires.eight.high_fits j below);
 }
 
 pub loop-b-preserved : goal.loop-b-preserved
@@ -62,12 +62,10 @@ loop-b-preserved c =
           }
     ]
 
-pub returns-clause-low : goal.returns-clause-low
-returns-clause-low c = λ j below.
+pub returns : goal.returns
+returns c =
     let all : min c.loop-b.b (length c.args.masses.now) ≡ length c.args.masses.now = omega arith in
-    rw (put_chunk_whole c.args.low.now c.loop-b.low_sums (omega arith), ← all) (c.loop-b.invariant.low j below)
-
-pub returns-clause-high : goal.returns-clause-high
-returns-clause-high c = λ j below.
-    let all : min c.loop-b.b (length c.args.masses.now) ≡ length c.args.masses.now = omega arith in
-    rw (put_chunk_whole c.args.high.now c.loop-b.high_sums (omega arith), ← all) (c.loop-b.invariant.high j below)
+    record {
+      low_sums = λ j below. rw (put_chunk_whole c.args.low.now c.loop-b.low_sums (omega arith), ← all) (c.loop-b.invariant.low j below);
+      high_sums = λ j below. rw (put_chunk_whole c.args.high.now c.loop-b.high_sums (omega arith), ← all) (c.loop-b.invariant.high j below);
+    }
