@@ -1,7 +1,7 @@
 // Eight places of a product of blocks.
 ghost use Rattle.std.specs.Prelude.{◌≡◌, ℕ, ◌+◌, ◌-◌, ◌*◌, ◌^◌, ◌<◌, ◌≤◌, length, slice_index, sum};
 ghost use Rattle.sota_units.specs.Rounding.{SCALE_LIMIT};
-ghost use Rattle.sota_block.specs.Meeting.{low_half, high_half, crossed_by};
+ghost use Rattle.sota_block.specs.Meeting.{crossed_by, HasEight, EightGrow, IsSkips};
 
 use crate::lanes::{add_highs, add_lows};
 use std::simd::prelude::*;
@@ -45,18 +45,8 @@ pub(crate) fn add_crossed(
     low: &mut [u64],
     high: &mut [u64],
 )
-    requires before { length masses.now ≤ at + 1 }
-    requires within { at + 8 ≤ length values.now }
-    requires low_room { length low.old ≡ 8 }
-    requires high_room { length high.old ≡ 8 }
-    requires low_fits { (j : ℕ) → j < 8
-        → slice_index low.old j + crossed_by low_half masses.now values.now (at + j) < 2 ^ 64 }
-    requires high_fits { (j : ℕ) → j < 8
-        → slice_index high.old j + crossed_by high_half masses.now values.now (at + j) < 2 ^ 64 }
-    ensures low { (j : ℕ) → j < 8 → slice_index low.new j
-        ≡ slice_index low.old j + crossed_by low_half masses.now values.now (at + j) }
-    ensures high { (j : ℕ) → j < 8 → slice_index high.new j
-        ≡ slice_index high.old j + crossed_by high_half masses.now values.now (at + j) }
+    requires { HasEight masses.now values.now at low.old high.old }
+    ensures { EightGrow masses.now values.now at low.old high.old low.new high.new }
 {
     let mut low_sums = u64x8::from_slice(low);
     let mut high_sums = u64x8::from_slice(high);
@@ -67,6 +57,38 @@ pub(crate) fn add_crossed(
             low_sums = add_lows(low_sums, mass, part);
             high_sums = add_highs(high_sums, mass, part);
         }
+    }
+    low_sums.copy_to_slice(low);
+    high_sums.copy_to_slice(high);
+}
+
+/// The same of masses many of which are 0: `skips` says where the next ones are that are not.
+#[inline(always)]
+pub(crate) fn add_skipping(
+    masses: &[u32],
+    skips: &[u32],
+    shift: usize,
+    values: &[u64],
+    at: usize,
+    low: &mut [u64],
+    high: &mut [u64],
+)
+    requires skips { IsSkips masses.now skips.now shift }
+    requires eight { HasEight masses.now values.now at low.old high.old }
+    ensures { EightGrow masses.now values.now at low.old high.old low.new high.new }
+{
+    let mut low_sums = u64x8::from_slice(low);
+    let mut high_sums = u64x8::from_slice(high);
+    let mut b = 0;
+    while b < masses.len() {
+        let next = skips[b] as usize - shift;
+        if next < masses.len() {
+            let mass = u64::from(masses[next]);
+            let part = u64x8::from_slice(&values[at - next..]);
+            low_sums = add_lows(low_sums, mass, part);
+            high_sums = add_highs(high_sums, mass, part);
+        }
+        b = next + 1;
     }
     low_sums.copy_to_slice(low);
     high_sums.copy_to_slice(high);

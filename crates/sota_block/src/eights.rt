@@ -1,23 +1,27 @@
 // Products of a block of masses and a block of values in lanes, eight places at a time.
 ghost use Rattle.std.specs.Prelude.{◌≡◌, ℕ, ◌+◌, ◌-◌, ◌*◌, ◌%◌, ◌^◌, ◌<◌, ◌≤◌, length};
-ghost use Rattle.std.specs.Prelude.{slice_index, min, sum};
+ghost use Rattle.std.specs.Prelude.{slice_index, min, sum, take, drop};
 ghost use Rattle.sota_units.specs.Rounding.{SCALE_LIMIT};
-ghost use Rattle.sota_block.specs.Meeting.{low_half, high_half, crossed_by};
+ghost use Rattle.sota_block.specs.Meeting.{low_half, high_half, crossed_by, IsSkips};
 ghost use Rattle.sota_block.specs.Meeting.{meeting_lows, meeting_highs};
 
-use crate::dense::{add_crossed, crossed_sums};
+use crate::dense::{add_skipping, crossed_sums};
 
 /// Adds the products of a block of values and of as many masses, or fewer, to the sums of the first
 /// places where they land, each sum in two halves: `low` gets the products of the values' lower 32
-/// bits, `high` those of the upper 32. Masses of 0 are passed over. What the lent `padded` holds
-/// afterwards is open; it has 16 places more than the block, or longer.
+/// bits, `high` those of the upper 32. Masses of 0 are passed over, as `skips` says. What the lent
+/// `padded` holds afterwards is open; it has 16 places more than the block, or longer.
 pub fn add_block(
     masses: &[u32],
+    skips: &[u32],
+    shift: usize,
     values: &[u64],
     padded: &mut [u64],
     low: &mut [u64],
     high: &mut [u64],
 )
+    requires skips { IsSkips masses.now skips.now shift }
+    requires near { shift ≤ 65536 }
     requires short { length values.now ≤ 65536 }
     requires within { length masses.now ≤ length values.now }
     requires padded_room { length values.now + 16 ≤ length padded.old }
@@ -35,7 +39,7 @@ pub fn add_block(
 {
     let padded = &mut padded[..values.len() + 16];
     pad(values, padded);
-    add_eights(masses, padded, low, high);
+    add_eights(masses, skips, shift, padded, low, high);
 }
 
 // The values between eight zeros before them and eight after them.
@@ -56,7 +60,16 @@ fn pad(values: &[u64], padded: &mut [u64])
 }
 
 // The products with values that have eight zeros before and after them.
-fn add_eights(masses: &[u32], padded: &[u64], low: &mut [u64], high: &mut [u64])
+fn add_eights(
+    masses: &[u32],
+    skips: &[u32],
+    shift: usize,
+    padded: &[u64],
+    low: &mut [u64],
+    high: &mut [u64],
+)
+    requires skips { IsSkips masses.now skips.now shift }
+    requires near { shift ≤ 65536 }
     requires eights { length low.old % 8 ≡ 0 }
     requires low_room { length low.old + 32 ≤ 2 * length padded.now }
     requires high_room { length high.old ≡ length low.old }
@@ -77,6 +90,8 @@ fn add_eights(masses: &[u32], padded: &[u64], low: &mut [u64], high: &mut [u64])
         let at = part * 8;
         add_eight(
             masses,
+            skips,
+            shift,
             padded,
             at,
             &mut low[at..at + 8],
@@ -98,7 +113,17 @@ fn eights_of(places: usize, reach: usize) -> usize
 
 // Eight of these places: of the masses that meet a value there.
 #[inline(always)]
-fn add_eight(masses: &[u32], padded: &[u64], at: usize, low: &mut [u64], high: &mut [u64])
+fn add_eight(
+    masses: &[u32],
+    skips: &[u32],
+    shift: usize,
+    padded: &[u64],
+    at: usize,
+    low: &mut [u64],
+    high: &mut [u64],
+)
+    requires skips { IsSkips masses.now skips.now shift }
+    requires near { shift ≤ 65536 }
     requires meets { at + 16 < length padded.now + length masses.now }
     requires within { length masses.now + 16 ≤ length padded.now }
     requires zeros_before { (i : ℕ) → i < 8 → slice_index padded.now i ≡ 0 }
@@ -115,7 +140,9 @@ fn add_eight(masses: &[u32], padded: &[u64], at: usize, low: &mut [u64], high: &
         ≡ slice_index high.old j + crossed_by high_half masses.now padded.now (at + j + 8) }
 {
     let (met, place) = window(masses, padded, at);
-    add_crossed(met, padded, place, low, high);
+    let first = at + 8 - place;
+    let met_skips = &skips[first..first + met.len()];
+    add_skipping(met, met_skips, shift + first, padded, place, low, high);
 }
 
 /// Eight places of such a product: of the masses that meet a value there.
@@ -144,13 +171,15 @@ fn window<'a>(masses: &'a [u32], padded: &[u64], at: usize) -> (&'a [u32], usize
     ensures before { length result.0.now ≤ result.1 + 1 }
     ensures within { result.1 + 8 ≤ length padded.now }
     ensures few { sum result.0.now ≤ sum masses.now }
+    ensures from { result.1 ≤ at + 8 }
+    ensures inside { at + 8 - result.1 + length result.0.now ≤ length masses.now }
+    ensures met { result.0.now
+        ≡ take (length result.0.now) (drop (at + 8 - result.1) masses.now) }
     ensures same { (part : ℕ → ℕ) (j : ℕ) → part 0 ≡ 0 → j < 8
         → crossed_by part result.0.now padded.now (result.1 + j)
         ≡ crossed_by part masses.now padded.now (at + j + 8) }
 {
     let first = at.saturating_sub(padded.len() - 16);
     let end = masses.len().min(at + 8);
-    let (front, _) = masses.split_at(end);
-    let (_, met) = front.split_at(first);
-    (met, at + 8 - first)
+    (&masses[first..end], at + 8 - first)
 }

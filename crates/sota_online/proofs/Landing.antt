@@ -1,5 +1,5 @@
 -- Where a square lands.
-use Rattle.std.proofs.Common.{◌≡◌, ℕ, zero, suc, ◌%◌, ◌/◌, ◌+◌, ◌-◌, ◌*◌, ◌^◌, ◌<◌, ◌≤◌, ◌++◌, min, List, length, get_or, take, drop, sum, add-one, refl, sym, ap, ◌∙◌, ⊎_elim, arith, length-take, length-drop, get_or-take, get_or-drop}
+use Rattle.std.proofs.Common.{◌≡◌, ℕ, zero, suc, ◌%◌, ◌/◌, ◌+◌, ◌-◌, ◌*◌, ◌^◌, ◌<◌, ◌≤◌, ◌++◌, min, List, length, get_or, take, drop, sum, subst, add-one, refl, sym, ap, ◌∙◌, ⊎_elim, arith, length-take, length-drop, get_or-take, get_or-drop}
 use Rattle.std.proofs.lemmas.Bool.{cases_lt}
 use Rattle.std.proofs.lemmas.List.{get_or_past, take_min}
 use Rattle.std.proofs.lemmas.Nat.{pow_pos}
@@ -13,6 +13,8 @@ use Rattle.sota_online.specs.Squares.{square, numbered, Holds}
 use Rattle.sota_online.specs.Products.{Landed, Added, Fits, HasRoom}
 use Rattle.sota_block.specs.Meeting.{meeting}
 use Rattle.sota_block.proofs.Partners.{met-in, met-early, met-late}
+use Rattle.sota_block.specs.Meeting.{IsSkips}
+use Rattle.sota_block.proofs.Crossings.{skips-part}
 use Rattle.sota_block.proofs.Stretch.{sub_at, stretch_new, stretch_before, stretch_after}
 use Rattle.sota_online.proofs.Squares.{mixed, Stands, Stands-block, Holds-next, meets-next, square-before, square-after, weight-le}
 
@@ -117,6 +119,12 @@ module _ (masses values : List ℕ) (first k r R size blocks end : ℕ) (st : St
       let x = held.low_le in
       let y = held.high_le in
       (omega (arith), omega (arith))
+
+-- what is said of the masses holds of a part of them
+pub skips-from : (masses skips : List ℕ) (from n : ℕ) → IsSkips masses skips 0 → from + n ≤ length masses → IsSkips (take n (drop from masses)) (take n (drop from skips)) from
+skips-from masses skips from n is room =
+    let shift : 0 + from ≡ from = omega arith in
+    subst (λ (s : ℕ). IsSkips (take n (drop from masses)) (take n (drop from skips)) s) shift (skips-part masses skips (take n (drop from masses)) (take n (drop from skips)) 0 from n is room refl refl)
 
 -- a part of the masses has no greater sum
 pub few_part : (masses : List ℕ) (from n limit : ℕ) → sum masses ≤ limit → sum (take n (drop from masses)) ≤ limit

@@ -3,7 +3,7 @@ use Rattle.std.specs.Prelude.{ℕ, zero, suc, ◌+◌, ◌-◌, ◌*◌, ◌/◌
 use Rattle.std.specs.Prelude.{◌≡◌, nat_le, nat_lt, if◌then◌else◌}
 use Rattle.std.specs.Prelude.{List, length, slice_index, take, sum}
 use Rattle.sota_units.specs.Rounding.{ONE, SCALE_LIMIT}
-use Rattle.sota_block.specs.Meeting.{met}
+use Rattle.sota_block.specs.Meeting.{met, IsSkips}
 use Rattle.sota_block.specs.Product.{sum_below, fold_count}
 
 -- the products at a position of the masses b with size <= b < 2 * size, with the values from
@@ -49,8 +49,9 @@ pub record Holds (masses values reach : ℕ → ℕ) (count position low high : 
 -- What a summer by squares keeps: the kernel, the least level and size of its squares, values of
 -- which the first `fed` were fed, and at each position two numbers that hold the products of all
 -- whole blocks of these levels. Where the kernel is too short for a square it needs no rows
-pub record IsWorked (masses : List ℕ) (first smallest : ℕ) (values : List ℕ) (fed : ℕ)
+pub record IsWorked (masses skips : List ℕ) (first smallest : ℕ) (values : List ℕ) (fed : ℕ)
     (low high thin wide : List ℕ) : Type 0 where
+  pub skips_are : IsSkips masses skips 0
   pub size_is : smallest ≡ 2 ^ first
   pub first_ge : 3 ≤ first
   pub first_le : first ≤ 9

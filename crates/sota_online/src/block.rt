@@ -8,7 +8,7 @@ ghost use Rattle.sota_online.specs.Squares.{square_counts};
 
 use crate::Summer;
 use crate::halves::{add_halves, joined};
-use crate::kernel::kernel_masses;
+use crate::kernel::{kernel_masses, skips_of};
 use crate::levels::work_off;
 use crate::square::some_masses;
 use crate::sums::{plain_sum, plain_sums};
@@ -28,6 +28,8 @@ use std::sync::ledger::Ledger;
 #[derive(Drop)]
 pub struct BlockSummer {
     masses: Vec<u32>,
+    // At each place of the kernel, where its next mass is that is not 0.
+    skips: Vec<u32>,
     // The level and the size of the smallest squares: two to the level.
     first: u32,
     smallest: usize,
@@ -55,7 +57,7 @@ impl Model for BlockSummer {
       room = length s.values.items - s.fed;
     } };
 
-    ghost invariant = { λ s. IsWorked s.masses.items s.first s.smallest s.values.items
+    ghost invariant = { λ s. IsWorked s.masses.items s.skips.items s.first s.smallest s.values.items
         s.fed s.low.items s.high.items s.thin.items s.wide.items };
 }
 
@@ -64,6 +66,7 @@ impl Summer for BlockSummer {
 
     fn make(alloc: Global, time: &Histogram, length: u32) -> Result<Self, NoMemory> {
         let masses = kernel_masses(alloc, time, length)?;
+        let skips = skips_of(alloc, &masses)?;
         let (first, smallest) = smallest_square(&masses);
         let values = vec![in alloc; 0; length as usize]?;
         let rooms = rooms_of(masses.len(), smallest, length);
@@ -73,6 +76,7 @@ impl Summer for BlockSummer {
         let wide = vec![in alloc; 0; rooms.wide]?;
         Ok(BlockSummer {
             masses,
+            skips,
             first,
             smallest,
             values,
@@ -106,6 +110,7 @@ impl Summer for BlockSummer {
         if ends_block(self.masses.len(), self.first, self.smallest, self.fed) {
             work_off(
                 &self.masses,
+                &self.skips,
                 self.first,
                 self.smallest,
                 &self.values[..self.fed],

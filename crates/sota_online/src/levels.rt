@@ -2,6 +2,7 @@
 ghost use Rattle.std.specs.Prelude.{◌≡◌, ℕ, ◌+◌, ◌-◌, ◌*◌, ◌%◌, ◌^◌, ◌<◌, ◌≤◌, length};
 ghost use Rattle.std.specs.Prelude.{slice_index, sum};
 ghost use Rattle.sota_units.specs.Rounding.{ONE, SCALE_LIMIT};
+ghost use Rattle.sota_block.specs.Meeting.{IsSkips};
 ghost use Rattle.sota_block.specs.Product.{IsBlockLength, fold_count};
 ghost use Rattle.sota_online.specs.Products.{Fits, Landed};
 ghost use Rattle.sota_online.specs.Squares.{Holds, LEVELS, numbered, reached, square_counts};
@@ -14,6 +15,7 @@ use std::sync::ledger::Ledger;
 /// each size, a power of two, of which the number of values is a multiple.
 pub(crate) fn work_off<M: Ledger>(
     masses: &[u32],
+    skips: &[u32],
     first: u32,
     smallest: usize,
     values: &[u64],
@@ -23,6 +25,7 @@ pub(crate) fn work_off<M: Ledger>(
     wide: &mut [u128],
     products: &mut Steps<M>,
 )
+    requires skips { IsSkips masses.now skips.now 0 }
     requires some { 1 ≤ length values.now }
     requires few_values { length values.now ≤ 65536 }
     requires size { smallest ≡ 2 ^ first }
@@ -44,7 +47,8 @@ pub(crate) fn work_off<M: Ledger>(
         → Holds (numbered masses.now) (λ a. slice_index values.now a)
         (λ r. reached first (length values.now) r) LEVELS p
         (slice_index low.new p) (slice_index high.new p) }
-    ensures count { products.new ≤ products.old + square_counts (length masses.now) (length values.now) }
+    ensures count { products.new
+        ≤ products.old + square_counts (length masses.now) (length values.now) }
 {
     let known = values.len();
     let mut size = smallest;
@@ -53,8 +57,11 @@ pub(crate) fn work_off<M: Ledger>(
         if size > masses.len() {
             return;
         }
+        let end = masses.len().min(2 * size - 1);
         add_at(
-            &masses[size - 1..masses.len().min(2 * size - 1)],
+            &masses[size - 1..end],
+            &skips[size - 1..end],
+            size - 1,
             &values[known - size..],
             known,
             low,
@@ -75,6 +82,8 @@ pub(crate) fn work_off<M: Ledger>(
 #[inline(always)]
 fn add_at<M: Ledger>(
     masses: &[u32],
+    skips: &[u32],
+    shift: usize,
     values: &[u64],
     at: usize,
     low: &mut [u64],
@@ -85,6 +94,8 @@ fn add_at<M: Ledger>(
 )
     requires block { IsBlockLength (length values.now) }
     requires within { length masses.now ≤ length values.now }
+    requires skips { IsSkips masses.now skips.now shift }
+    requires near { shift ≤ 65536 }
     requires at_eights { at % 8 ≡ 0 }
     requires block_eights { length values.now % 8 ≡ 0 }
     requires low_eights { length low.old % 8 ≡ 0 }
@@ -103,6 +114,8 @@ fn add_at<M: Ledger>(
     let end = low.len().min(at + 2 * values.len());
     add_square(
         masses,
+        skips,
+        shift,
         values,
         &mut low[at..end],
         &mut high[at..end],

@@ -1,6 +1,7 @@
 // The products of a block of masses and a block of values.
 ghost use Rattle.std.specs.Prelude.{◌≡◌, ℕ, ◌+◌, ◌*◌, ◌%◌, ◌^◌, ◌<◌, ◌≤◌, length, slice_index};
 ghost use Rattle.std.specs.Prelude.{count_by, nat_lt};
+ghost use Rattle.sota_block.specs.Meeting.{IsSkips};
 ghost use Rattle.sota_block.specs.Product.{fold_count};
 ghost use Rattle.sota_online.specs.Products.{IsSquare, Added};
 
@@ -15,6 +16,8 @@ use std::sync::ledger::Ledger;
 #[inline(always)]
 pub(crate) fn add_square<M: Ledger>(
     masses: &[u32],
+    skips: &[u32],
+    shift: usize,
     values: &[u64],
     low: &mut [u64],
     high: &mut [u64],
@@ -23,6 +26,8 @@ pub(crate) fn add_square<M: Ledger>(
     products: &mut Steps<M>,
 )
     requires square { IsSquare masses.now values.now low.old high.old }
+    requires skips { IsSkips masses.now skips.now shift }
+    requires near { shift ≤ 65536 }
     requires eights { length low.old % 8 ≡ 0 }
     requires thin_room { 2 * length values.now + 16 ≤ length thin.old }
     requires wide_room { 6 * length values.now ≤ length wide.old }
@@ -36,7 +41,9 @@ pub(crate) fn add_square<M: Ledger>(
     }
     let taken = some * values.len();
     if taken <= fold_products(values.len()) {
-        return add_plain(masses, values, low, high, thin, taken, products);
+        return add_plain(
+            masses, skips, shift, values, low, high, thin, taken, products,
+        );
     }
     add_folded(masses, values, low, high, thin, wide, products);
 }
@@ -62,6 +69,8 @@ pub(crate) fn some_masses(masses: &[u32]) -> usize
 #[inline(always)]
 fn add_plain<M: Ledger>(
     masses: &[u32],
+    skips: &[u32],
+    shift: usize,
     values: &[u64],
     low: &mut [u64],
     high: &mut [u64],
@@ -70,12 +79,14 @@ fn add_plain<M: Ledger>(
     products: &mut Steps<M>,
 )
     requires square { IsSquare masses.now values.now low.old high.old }
+    requires skips { IsSkips masses.now skips.now shift }
+    requires near { shift ≤ 65536 }
     requires eights { length low.old % 8 ≡ 0 }
     requires padded_room { length values.now + 16 ≤ length padded.old }
     requires taken { count_by (λ m. nat_lt 0 m) masses.now * length values.now ≤ taken }
     ensures added { Added masses.now values.now low.old high.old low.new high.new }
     ensures count { products.new ≡ products.old + taken }
 {
-    add_block(masses, values, padded, low, high);
+    add_block(masses, skips, shift, values, padded, low, high);
     products.add(taken as u64);
 }

@@ -74,12 +74,10 @@ loop-b-preserved c =
           }
     ]
 
-pub returns-clause-low : goal.returns-clause-low
-returns-clause-low c = λ j below.
+pub returns : goal.returns
+returns c =
     let all : c.loop-b.b ≡ length c.args.masses.now = omega arith in
-    rw (put_chunk_whole c.args.low.now c.loop-b.low_sums (omega arith), ← all) (c.loop-b.invariant.low j below)
-
-pub returns-clause-high : goal.returns-clause-high
-returns-clause-high c = λ j below.
-    let all : c.loop-b.b ≡ length c.args.masses.now = omega arith in
-    rw (put_chunk_whole c.args.high.now c.loop-b.high_sums (omega arith), ← all) (c.loop-b.invariant.high j below)
+    record {
+      low_sums = λ j below. rw (put_chunk_whole c.args.low.now c.loop-b.low_sums (omega arith), ← all) (c.loop-b.invariant.low j below);
+      high_sums = λ j below. rw (put_chunk_whole c.args.high.now c.loop-b.high_sums (omega arith), ← all) (c.loop-b.invariant.high j below);
+    }
