@@ -187,7 +187,8 @@ pub(crate) fn feed_extent<Z: Summer, M: Ledger>(
     requires broad { length broad.old ≡ length target.now.network.now.arcs }
     requires target { IsTarget target.now }
     requires ready { AreReady target.now.network.now target.now.dest (table_at tables.now) }
-    requires extent { IsExtent target.now.network.now target.now.dest (table_at tables.now) node to }
+    requires extent { IsExtent target.now.network.now target.now.dest (table_at tables.now) node
+        to }
     requires can { AllCanFeed Z.state target.now.network.now target.now.dest node to broad.old }
     ensures fed { (e : ℕ) (arc : Arc) (count total : ℕ)
         → arc_at target.now.network.now e ≡ Some arc → arc.tail ≡ node

@@ -7,7 +7,7 @@ use Rattle.std.proofs.lemmas.Bool.{lt-ltb, le-ltb, cases_lt, cases_eq}
 use Rattle.std.proofs.lemmas.List.{get_or-set_other}
 use Rattle.std.proofs.lemmas.Grind.{get_or-set_at}
 use Rattle.std.proofs.Math.ListN.{set, length-set}
-use Rattle.sota_hist.specs.Time.{RisesFrom, IsTime, total, within, least_tick}
+use Rattle.sota_hist.specs.Time.{RisesFrom, IsTime, total, within, least_tick, greatest_tick}
 use Rattle.sota_network.specs.Grid.{weighed}
 use Rattle.sota_sums.proofs.PairSums.{within-in, within-out, within_none, weighed-in, weighed-out, total-cons}
 use Rattle.sota_sums.specs.Rows.{row_at}
@@ -62,6 +62,13 @@ weighed-whole row t a (p ∷ ps) h =
     ∙ ap (λ (n : ℕ). p.1 * slice_index row (t - p.0) + n) rest
     ∙ sym (sum_by-cons (λ (q : ℕ × ℕ). q.1 * slice_index row (t - q.0)) p (within a ps))))
     (cases_lt a p.0)
+
+-- nothing is left out at the greatest tick
+pub within-whole : (t : ℕ) (ps : List (ℕ × ℕ)) → greatest_tick ps ≤ t → within t ps ≡ ps
+within-whole t [] h = refl
+within-whole t (p ∷ ps) h =
+    let rest : within t ps ≡ ps = within-whole t ps (omega arith) in
+    within-in t p ps (omega arith) ∙ ap (λ (qs : List (ℕ × ℕ)). p ∷ qs) rest
 
 -- what holds of all pairs within a tick
 pub within-all : (t : ℕ) (ps : List (ℕ × ℕ)) → All (λ (p : ℕ × ℕ). p.0 ≤ t) (within t ps)

@@ -1,7 +1,7 @@
 // The sums of one arc at budgets in a row.
 ghost use Rattle.std.specs.Prelude.{ℕ, ◌≡◌, ◌+◌, ◌*◌, ◌<◌, ◌≤◌, false, length, slice_index};
 ghost use Rattle.sota_units.specs.Rounding.{ONE, SCALE_LIMIT};
-ghost use Rattle.sota_hist.specs.Time.{IsTime, is_closed, least_tick, total};
+ghost use Rattle.sota_hist.specs.Time.{IsTime, is_closed, least_tick, total, within};
 ghost use Rattle.sota_network.specs.Grid.{weighed};
 ghost use Rattle.sota_units.specs.Limits.{BUDGET_LIMIT};
 ghost use Rattle.sota_sums.specs.Rows.{row_at};
@@ -29,19 +29,31 @@ fn sum_at(pairs: &[(Tick, Mass)], row: &[Grain], place: usize) -> u128
     sum
 }
 
+/// The pairs at ticks of at most the limit: mostly all of them, and then nothing is searched.
+fn pairs_within(time: &Histogram, limit: u32) -> &[(Tick, Mass)]
+    requires open { is_closed time.now ≡ false }
+    ensures { result.now ≡ within limit time.now }
+{
+    if time.greatest().get() <= limit {
+        return time.pairs();
+    }
+    time.within(Tick(limit))
+}
+
 /// The sums of an arc at eight places in a row. Pairs whose ticks come up to the first place make
 /// theirs in lanes, and the few others one by one.
 fn tile_sums(time: &Histogram, row: &[Grain], at: usize, into: &mut [u128])
     requires room { length into.old ≡ 8 }
+    requires open { is_closed time.now ≡ false }
     requires limit { at ≤ BUDGET_LIMIT + 1 }
     requires reach { at + 8 ≤ length row.now + least_tick time.now }
     ensures { (j : ℕ) → j < 8 → slice_index into.new j
         ≡ weighed (λ u. slice_index row.now u) (at + j) time.now }
 {
     let pairs = time.pairs();
-    let front = time.within(Tick(at as u32));
+    let front = pairs_within(time, at as u32);
     pair_sums(front, row, at, into);
-    let late = time.within(Tick(at as u32 + 7));
+    let late = pairs_within(time, at as u32 + 7);
     let (_, edge) = late.split_at(front.len());
     if !edge.is_empty() {
         for j in 0..8 {
@@ -53,6 +65,7 @@ fn tile_sums(time: &Histogram, row: &[Grain], at: usize, into: &mut [u128])
 /// The same at eight budgets, of values from a base on.
 fn tile_at(time: &Histogram, row: &[Grain], base: u32, budget: u32, into: &mut [u128])
     requires room { length into.old ≡ 8 }
+    requires open { is_closed time.now ≡ false }
     requires limit { budget ≤ BUDGET_LIMIT + 1 }
     requires above { base ≤ budget }
     requires reach { budget + 8 ≤ base + length row.now + least_tick time.now }
@@ -118,6 +131,10 @@ pub fn arc_sums(time: &Histogram, row: &[Grain], base: u32, from: u32, into: &mu
 {
     if time.is_closed() {
         into.fill(0);
+        return;
+    }
+    if time.pairs().len() == 1 {
+        single_sums(time, row, base, from, into);
         return;
     }
     let count = into.len();
