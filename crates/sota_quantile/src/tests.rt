@@ -1,5 +1,6 @@
 // Needs on small networks, and refused ones.
-ghost use Rattle.std.specs.Prelude.{◌≡◌, ◌<◌, length};
+ghost use Rattle.std.specs.Prelude.{◌≡◌, ◌<◌, length, IfOk};
+ghost use Rattle.sota_hist.specs.Time.{IsTime, total};
 
 use crate::{Need, NeedFault, least_budgets};
 use sota_hist::Histogram;
@@ -11,17 +12,15 @@ use std::sync::ledger::{Blank, Ledger};
 use std::test::Fail;
 
 /// An arc from a tail to a head with these chances, over the scale.
-fn arc(
-    alloc: Global,
-    (tail, head): (u32, u32),
-    scale: Scale,
-    chances: &[(Tick, Mass)],
-) -> Result<Arc, Fail>
+fn arc(alloc: Global, ends: (u32, u32), scale: Scale, chances: &[(Tick, Mass)]) -> Result<Arc, Fail>
     requires { length chances.now < 100 }
+    ensures ends { IfOk result (λ arc. (arc.tail ≡ ends.0) × (arc.head ≡ ends.1)) }
+    ensures time { IfOk result (λ arc. IsTime arc.time) }
+    ensures total { IfOk result (λ arc. total arc.time ≡ scale) }
 {
     Ok(Arc {
-        tail: NodeId(tail),
-        head: NodeId(head),
+        tail: NodeId(ends.0),
+        head: NodeId(ends.1),
         time: Histogram::build(alloc, scale, chances)?,
     })
 }
@@ -55,7 +54,7 @@ type Wanted = (u32, u32, u64, u32);
 fn need_counted<M: Ledger, P: Ledger>(
     alloc: Global,
     network: &Network,
-    (origin, dest, units, most): Wanted,
+    wanted: Wanted,
     products: Blank,
     pushes: Blank,
 ) -> Result<Need, NeedFault>
@@ -64,6 +63,7 @@ fn need_counted<M: Ledger, P: Ledger>(
     requires pushes { (pushes.name ≡ P.name) × (pushes.parts ≡ P.parts)
         × (0 < pushes.parts) }
 {
+    let (origin, dest, units, most) = wanted;
     let mut products = Steps::<M>::new(products);
     let mut pushes = Steps::<P>::new(pushes);
     let confidence = Grain::new(units).unwrap_or(Grain::ONE);
