@@ -1,5 +1,5 @@
 -- The bounds of the origin by its tables, and what the laws of the grid say of them.
-use Rattle.std.proofs.Common.{ℕ, ◌≡◌, ◌+◌, ◌≤◌, subst, arith}
+use Rattle.std.proofs.Common.{ℕ, ◌≡◌, ◌+◌, ◌≤◌, ◌∙◌, Option, subst, arith}
 use Rattle.sota_network.specs.Network.{Net}
 use Rattle.sota_bounds.specs.declared.ask.AskRegion.{AskRegion}
 use Rattle.sota_tables.specs.Views.{TablesView}
@@ -18,5 +18,5 @@ module _ (value grid : ℕ → ℕ) (most : ℕ) (same : (t : ℕ) → t ≤ mos
   pub bounds-rise : ((t u : ℕ) → t ≤ u → grid t ≤ grid u) → (t u : ℕ) → t ≤ u → u ≤ most → value t ≤ value u
   bounds-rise rises t u later within = omega (arith, same t (omega arith), same u within, rises t u later)
 
-  pub least-same : (c : ℕ) → least_budget value c most ≡ least_budget grid c most
-  least-same c = first-same value grid c 0 (most + 1) (λ t low high. same t (omega (arith, high)))
+  pub least-is : (c : ℕ) (found : Option ℕ) → found ≡ least_budget value c most → found ≡ least_budget grid c most
+  least-is c found is = is ∙ first-same value grid c 0 (most + 1) (λ t low high. same t (omega (arith, high)))

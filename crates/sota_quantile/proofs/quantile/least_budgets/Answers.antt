@@ -1,7 +1,7 @@
 use Rattle.std.proofs.Common.{sym, ◌∙◌}
 use Rattle.sota_network.specs.Grid.{lo, hi}
 use Rattle.sota_tables.specs.Views.{lower_at, upper_at}
-use Rattle.sota_quantile.proofs.Known.{asked-bounds, bounds-rise, least-same}
+use Rattle.sota_quantile.proofs.Known.{asked-bounds, bounds-rise, least-is}
 use Rattle.sota_quantile.proofs.quantile.least_budgets.Goals as goal
 
 pub find_least-requires-clause-known : goal.find_least-requires-clause-known
@@ -23,12 +23,12 @@ find_least-requires-2-clause-rises g c =
 pub returns-clause-early : goal.returns-clause-early
 returns-clause-early g c =
     let bounds = asked-bounds c.in_ok-region.region c.in_ok-tables.tables c.args.network.now c.args.origin c.args.dest c.args.most c.in_ok-region.ensures.made.asked c.in_ok-tables.ensures.bounds in
-    c.find_least.ensures ∙ least-same (upper_at c.in_ok-tables.tables c.args.origin) (hi c.args.network.now c.args.dest c.args.origin) c.args.most bounds.upper c.args.confidence
+    least-is (upper_at c.in_ok-tables.tables c.args.origin) (hi c.args.network.now c.args.dest c.args.origin) c.args.most bounds.upper c.args.confidence c.find_least.result c.find_least.ensures
 
 pub returns-clause-sure : goal.returns-clause-sure
 returns-clause-sure g c =
     let bounds = asked-bounds c.in_ok-region.region c.in_ok-tables.tables c.args.network.now c.args.origin c.args.dest c.args.most c.in_ok-region.ensures.made.asked c.in_ok-tables.ensures.bounds in
-    c.find_least-2.ensures ∙ least-same (lower_at c.in_ok-tables.tables c.args.origin) (lo c.args.network.now c.args.dest c.args.origin) c.args.most bounds.lower c.args.confidence
+    least-is (lower_at c.in_ok-tables.tables c.args.origin) (lo c.args.network.now c.args.dest c.args.origin) c.args.most bounds.lower c.args.confidence c.find_least-2.result c.find_least-2.ensures
 
 pub returns-clause-none : goal.returns-clause-none
 returns-clause-none g c = λ none t within reached.
