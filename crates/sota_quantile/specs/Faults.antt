@@ -29,11 +29,13 @@ size_cause (regions.TableCells count) = needs.TableCells count
 size_cause (regions.BroadCells count) = needs.BroadCells count
 size_cause regions.NoMemory = needs.NoMemory
 
+abbrev pub size_fault : Net → ℕ → ℕ → ℕ → Option NeedFault
+size_fault net origin dest most = option_map size_cause (region_fault net origin dest most)
+
 -- the first cause for which a need is refused, none where it is answered
 abbrev pub need_fault : Net → ℕ → ℕ → ℕ → Option NeedFault
 need_fault net origin dest most =
-    option_or (range_fault net origin dest most)
-    (option_map size_cause (region_fault net origin dest most))
+    option_or (range_fault net origin dest most) (size_fault net origin dest most)
 
 -- want of memory has no cause in what was handed in
 abbrev pub is_shortage : NeedFault → Bool

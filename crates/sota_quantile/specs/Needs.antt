@@ -7,8 +7,8 @@ use Rattle.sota_network.specs.Trees.{Tree, Fits, score}
 use Rattle.sota_network.specs.Region.{budgets}
 
 -- who stands at node i can be at the destination within t ticks with a probability of at least c
--- units of ten to the minus eighteenth: some decision tree from there has it. Then one has it within
--- each greater budget, by `more_time_reaches`
+-- units of ten to the minus eighteenth: some decision tree from there has it. Then one has it
+-- within each greater budget, by `more_time_reaches`
 abbrev pub ReachesWith : Net → ℕ → ℕ → ℕ → ℕ → Type 0
 ReachesWith net dest i c t =
     (tree : Tree) × Fits net i tree × (c * net.scale ^ t ≤ ONE * score net dest i t tree)

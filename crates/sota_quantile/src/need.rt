@@ -60,9 +60,9 @@ impl NeedFault {
 }
 
 impl From<NoMemory> for NeedFault {
-    ghost use Rattle.sota_quantile.specs.declared.need.NeedFault.TheVariants.{NoMemory as OutOfMemory};
+    ghost use Rattle.sota_quantile.specs.declared.need.NeedFault.TheVariants as needs;
 
-    ghost from_gives = { λ _ fault. fault ≡ OutOfMemory };
+    ghost from_gives = { λ _ fault. fault ≡ needs.NoMemory };
 
     fn from(_: NoMemory) -> Self {
         NeedFault::NoMemory

@@ -13,19 +13,19 @@ use crate::laws::{needs_by_trees, values_rise};
 use crate::need::{Need, NeedFault, find_range_fault};
 use crate::planned::plan;
 use crate::search::{Bound, find_least};
-use sota_bounds::region;
 use sota_network::Network;
 use sota_units::{Grain, NodeId, Steps};
 use std::alloc::Global;
 use std::sync::ledger::Ledger;
 
 /// How much time one who stands at the origin must allow to be at the destination with the chance
-/// `confidence`: the least budgets of at most `most` ticks at which the upper and the lower bound of
-/// the grid are at least the confidence. No budget below the first reaches it, and the second one
+/// `confidence`: the least budgets of at most `most` ticks at which the upper and the lower bound
+/// of the grid are at least the confidence. No budget below the first reaches it, and the second one
 /// does: by decision trees, the least that does lies between them.
 ///
-/// It is refused as an ask with the budget `most` is. What is planned is kept in tables of its own,
-/// and each of its table cells is three pushes. What is multiplied is counted in `products`.
+/// It is refused as an ask with the budget `most` is, and NoMemory comes for no need out of range.
+/// What is planned stands in tables of its own; each table cell of that ask is three pushes. What
+/// is multiplied is counted in `products`, of which nothing is promised.
 pub fn least_budgets<M: Ledger, P: Ledger>(
     alloc: Global,
     network: &Network,
@@ -60,8 +60,7 @@ pub fn least_budgets<M: Ledger, P: Ledger>(
     if let Some(fault) = find_range_fault(network, origin, dest, most) {
         return Err(fault);
     }
-    let region = region(alloc, network, origin, dest, most)?;
-    let tables = plan(alloc, network, &region, products, pushes)?;
+    let tables = plan(alloc, network, origin, dest, most, products, pushes)?;
     Ok(Need {
         early: find_least(&tables, origin, Bound::Upper, confidence, most),
         sure: find_least(&tables, origin, Bound::Lower, confidence, most),
