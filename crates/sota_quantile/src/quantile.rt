@@ -20,8 +20,8 @@ use std::sync::ledger::Ledger;
 
 /// How much time one who stands at the origin must allow to be at the destination with the chance
 /// `confidence`: the least budgets of at most `most` ticks at which the upper and the lower bound
-/// of the grid are at least the confidence. No budget below the first reaches it, and the second one
-/// does: by decision trees, the least that does lies between them.
+/// of the grid are at least the confidence. No budget below the first reaches it, and the second
+/// does: by decision trees, the least that does lies from the first to the second.
 ///
 /// It is refused as an ask with the budget `most` is, and NoMemory comes for no need out of range.
 /// What is planned stands in tables of its own; each table cell of that ask is three pushes. What
