@@ -2,6 +2,8 @@
 use Rattle.std.proofs.Common.{◌≡◌, ℕ, zero, suc, ◌+◌, ◌-◌, ◌*◌, ◌/◌, ◌%◌, ◌<◌, ◌≤◌, min, List, length, get_or, take, drop, sum, refl, sym, ap, ◌∙◌, ⊎_elim, arith, add-one, length-take, length-drop, get_or-take, get_or-drop}
 use Rattle.std.proofs.lemmas.Bool.{cases_eq, cases_lt}
 use Rattle.std.proofs.lemmas.List.{get_or_past}
+use Rattle.std.specs.Simd.Lanes.{chunk}
+use Rattle.std.proofs.lemmas.Simd.{get_or-chunk}
 use Rattle.sota_block.specs.Product.{sum_below}
 use Rattle.sota_block.proofs.Sums.{sum_below-same, sum_below-zero, sum_below-add, sum_below-product-le, sum_below-list}
 use Rattle.sota_block.specs.Meeting.{crossed_by, low_half, high_half, IsSkips}
@@ -85,6 +87,19 @@ crossed-le part masses values place limit small =
     let most = sum_below-product-le (length masses) limit (λ b. get_or masses b 0) (λ b. part (get_or values (place - b) 0)) (λ b below. small (place - b)) in
     rw (sum_below-list masses) at most
 
+-- a lane of eight values
+pub lane : (at b j : ℕ) (vs : List ℕ) → j < 8 → b ≤ at → get_or (chunk (at - b) 8 vs) j 0 ≡ get_or vs (at + j - b) 0
+lane at b j vs below from =
+    let place : at - b + j ≡ at + j - b = omega arith in
+    get_or-chunk (at - b) 8 vs j 0 below ∙ ap (λ (n : ℕ). get_or vs n 0) place
+
+pub lane-more : (part : ℕ → ℕ) (masses values : List ℕ) (at b j m : ℕ) → j < 8 → b ≤ at → m ≡ get_or masses b 0
+    → partial part masses values (at + j) (b + 1) ≡ partial part masses values (at + j) b + m * part (get_or (chunk (at - b) 8 values) j 0)
+lane-more part masses values at b j m below from mass = partial-more part masses values (at + j) b m (get_or (chunk (at - b) 8 values) j 0) mass (lane at b j values below from)
+
+pub partial-le : (part : ℕ → ℕ) (masses values : List ℕ) (place n : ℕ) → n ≤ length masses → partial part masses values place n ≤ crossed_by part masses values place
+partial-le part masses values place n within = sum_below-le n (length masses) (λ b. get_or masses b 0 * part (get_or values (place - b) 0)) within
+
 -- masses of 0 add nothing
 pub partial-same : (part : ℕ → ℕ) (masses values : List ℕ) (place n d : ℕ) → ((i : ℕ) → n ≤ i → i < n + d → get_or masses i 0 ≡ 0) → partial part masses values place (n + d) ≡ partial part masses values place n
 partial-same part masses values place n d none =
@@ -107,6 +122,11 @@ module _ (part : ℕ → ℕ) (masses skips values : List ℕ) (shift place b ne
 
   pub skip-rest : length masses ≤ next → partial part masses values place (length masses) ≡ partial part masses values place (min b (length masses))
   skip-rest past = before (length masses) (omega arith) past (omega arith)
+
+pub skip-lane : (part : ℕ → ℕ) (masses skips values : List ℕ) (shift at b next j mass : ℕ) → IsSkips masses skips shift → b < length masses → next ≡ get_or skips b 0 - shift → next < length masses → j < 8 → next ≤ at → mass ≡ get_or masses next 0
+    → partial part masses values (at + j) (next + 1) ≡ partial part masses values (at + j) (min b (length masses)) + mass * part (get_or (chunk (at - next) 8 values) j 0)
+skip-lane part masses skips values shift at b next j mass is inside next_is there below from mass_is =
+    skip-more part masses skips values shift (at + j) b next is inside next_is mass (get_or (chunk (at - next) 8 values) j 0) there mass_is (lane at next j values below from)
 
 -- what is said of a list holds of its parts
 pub skips-part : (masses skips met mets : List ℕ) (shift first n : ℕ) → IsSkips masses skips shift → first + n ≤ length masses → met ≡ take n (drop first masses) → mets ≡ take n (drop first skips) → IsSkips met mets (shift + first)
