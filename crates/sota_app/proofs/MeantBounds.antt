@@ -1,5 +1,5 @@
 -- The bounds and the choice of the grid mean what an answer says.
-use Rattle.std.proofs.Common.{◌≡◌, ◌≤◌, ◌+◌, ◌*◌, ◌^◌, ℕ, Option, refl}
+use Rattle.std.proofs.Common.{◌≤◌, ◌+◌, ◌*◌, ◌^◌, ℕ, Option, refl}
 use Rattle.sota_units.specs.Rounding.{ONE}
 use Rattle.sota_network.specs.Network.{Net, IsNet}
 use Rattle.sota_network.specs.Grid.{lo, hi, choice}

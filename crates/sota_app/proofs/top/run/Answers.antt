@@ -1,6 +1,4 @@
 use Rattle.std.proofs.Common.{List, ℕ, map, string_bytes, subst}
-use Rattle.sota_edge.specs.Desk.{DeskState}
-use Rattle.sota_edge.specs.Sink.{SinkState}
 use Rattle.sota_network.specs.Network.{IsNet}
 use Rattle.sota_session.specs.Asks.{answer_of}
 use Rattle.sota_session.specs.Plans.{plan_table}
@@ -11,11 +9,9 @@ use Rattle.sota_app.specs.Verdicts.{named, accepted_line}
 use Rattle.sota_app.specs.Shown.{PlanHolds}
 use Rattle.sota_app.specs.Inputs.{IsWorked}
 use Rattle.sota_check.specs.Certified.{rule, IsCertified}
-use Rattle.sota_app.specs.Outcome.{outcome, play, judge, show, shown}
-use Rattle.sota_app.specs.Causes.{Delivered, Ended}
+use Rattle.sota_app.specs.Outcome.{play, judge, show, shown}
+use Rattle.sota_app.specs.Causes.{Delivered}
 use Rattle.sota_app.specs.Meaning.{line_net}
-use Rattle.sota_app.specs.declared.status.Status.{Status}
-use Rattle.sota_app.specs.declared.status.Status.TheVariants.{Done}
 use Rattle.sota_app.proofs.Exact.{exact, done_stands}
 use Rattle.sota_app.proofs.Sized.{all_sized}
 use Rattle.sota_app.proofs.EachLine.{keeps_network}
