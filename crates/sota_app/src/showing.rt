@@ -80,7 +80,7 @@ fn make_plan<M: Ledger, P: Ledger>(
     ensures plan { Answers asks.is_shortage result (plan_result session.old.network ask.now) }
     ensures holds { IfOk result (λ _. HoldsUnlessRefused session.old.network ask.now) }
     ensures few { IfOk result (λ plan. cells plan.table ≤ TABLE_LIMIT) }
-    ensures kept { session.new ≡ session.old }
+    ensures kept { session.new.network ≡ session.old.network }
 {
     let answer = session.ask(*ask, products, pushes)?;
     let table = session.policy(*ask, products, pushes)?;
