@@ -3,8 +3,9 @@
 
     bench/online_sums.py [FOLDER]
 
-Values are fed one after the other, and the sum at each position is read as soon as it is known, for kernels of span 16
-to 5000, with a mass at each tick or at one in ten. The program on the Rattle side has to be a crate, so it is made in a
+Values are fed one after the other, and the sum at each position is read as soon as it is known ('block', 'plain') or the
+sums of 64 positions at once ('blocks', 'plains'), for kernels of span 16 to 5000, with a mass at each tick or at one in
+ten. The program on the Rattle side has to be a crate, so it is made in a
 scratch folder (FOLDER, or one of its own that is removed afterwards) from copies of this repository's crates; that
 proves and builds it. The C loop is compiled by gcc -O2 and -O3 and sums 128 bits wide. Each time is the least of
 several, in processor time; 'products' are masses other than 0 times positions. Needs `rt` and `gcc` on the path.
@@ -35,7 +36,7 @@ use std::marker::Brand;
 use std::sync::ledger::{Blank, Ledger};
 use std::time::CpuClock;
 
-// Feeds so many values, and gives the sum of all sums.
+// Feeds so many values and reads each sum when it is known, and gives the sum of all sums.
 fn all_sums<S: Summer, M: Ledger>(
     alloc: Global,
     time: &Histogram,
@@ -67,9 +68,48 @@ fn all_sums<S: Summer, M: Ledger>(
     all
 }
 
+// The same, but reads the sums of 64 positions at once.
+fn many_sums<S: Summer, M: Ledger>(
+    alloc: Global,
+    time: &Histogram,
+    length: u32,
+    start: u64,
+    products: &mut Steps<M>,
+) -> u128
+    requires open { is_closed time.now ≡ false }
+    requires length { length ≤ 65536 }
+{
+    let mut summer = match S::make(alloc, time, length) {
+        Ok(summer) => summer,
+        Err(_) => return 0,
+    };
+    let mut all = 0u128;
+    let mut seed = start;
+    let mut sums = [0u128; 64];
+    for _ in 0..length / 64 {
+        for _ in 0..64 {
+            if summer.room() == 0 {
+                return all;
+            }
+            seed = seed.wrapping_mul(6364136223846793005).wrapping_add(1);
+            let value = Grain::new(seed >> 5).unwrap_or(Grain::ZERO);
+            summer.feed(value, products);
+        }
+        let fed = summer.fed();
+        if fed >= 64 {
+            summer.sums(fed - 63, &mut sums);
+            for sum in sums {
+                all = all.wrapping_add(sum);
+            }
+        }
+    }
+    all
+}
+
 fn time_of<S: Summer, M: Ledger>(
     rt: &HostRuntime,
     name: &str,
+    many: bool,
     step: u32,
     span: u32,
     time: &Histogram,
@@ -87,7 +127,11 @@ fn time_of<S: Summer, M: Ledger>(
     let mut all = 0u128;
     for round in 0..5u32 {
         let start = rt.thread_cpu_time()?.as_nanos();
-        let sum = all_sums::<S, M>(rt.alloc(), time, length, u64::from(round), &mut products);
+        let sum = if many {
+            many_sums::<S, M>(rt.alloc(), time, length, u64::from(round), &mut products)
+        } else {
+            all_sums::<S, M>(rt.alloc(), time, length, u64::from(round), &mut products)
+        };
         all = all.wrapping_mul(3).wrapping_add(sum);
         let took = rt.thread_cpu_time()?.as_nanos().wrapping_sub(start);
         best = best.min(took);
@@ -97,6 +141,7 @@ fn time_of<S: Summer, M: Ledger>(
 
 fn time_block<M: Ledger>(
     rt: &HostRuntime,
+    many: bool,
     step: u32,
     span: u32,
     time: &Histogram,
@@ -109,11 +154,13 @@ fn time_block<M: Ledger>(
     requires parts { blank.parts ≡ M.parts }
     requires some { 0 < blank.parts }
 {
-    time_of::<BlockSummer, M>(rt, "block", step, span, time, length, blank)
+    let name = if many { "blocks" } else { "block" };
+    time_of::<BlockSummer, M>(rt, name, many, step, span, time, length, blank)
 }
 
 fn time_plain<M: Ledger>(
     rt: &HostRuntime,
+    many: bool,
     step: u32,
     span: u32,
     time: &Histogram,
@@ -126,7 +173,8 @@ fn time_plain<M: Ledger>(
     requires parts { blank.parts ≡ M.parts }
     requires some { 0 < blank.parts }
 {
-    time_of::<PlainSummer, M>(rt, "plain", step, span, time, length, blank)
+    let name = if many { "plains" } else { "plain" };
+    time_of::<PlainSummer, M>(rt, name, many, step, span, time, length, blank)
 }
 
 fn spans(rt: &HostRuntime, span: u32, step: u32, length: u32) -> io::Result<()>
@@ -152,8 +200,11 @@ fn spans(rt: &HostRuntime, span: u32, step: u32, length: u32) -> io::Result<()>
     if time.is_closed() {
         return Ok(());
     }
-    time_block::<Brand>(rt, step, span, &time, length, Blank::new(1))?;
-    time_plain::<Brand>(rt, step, span, &time, length, Blank::new(1))
+    for many in [false, true] {
+        time_block::<Brand>(rt, many, step, span, &time, length, Blank::new(1))?;
+        time_plain::<Brand>(rt, many, step, span, &time, length, Blank::new(1))?;
+    }
+    Ok(())
 }
 
 fn main(rt: HostRuntime) -> io::Result<()> {

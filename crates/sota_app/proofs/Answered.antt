@@ -1,6 +1,6 @@
 -- An ask that is answered: the text around its line, and that the network of its line is one.
 use Rattle.std.proofs.Common.{◌≡◌, ◌++◌, ◌∷◌, ℕ, List, Option, Some, None, Ok}
-use Rattle.std.proofs.Common.{[], refl, ap, ◌∙◌, subst}
+use Rattle.std.proofs.Common.{[], IfSome, refl, ap, ◌∙◌, subst}
 use Rattle.std.specs.Option.{IsSomeAnd}
 use Rattle.sota_edge.specs.Desk.{Files, DeskState}
 use Rattle.sota_edge.specs.Sink.{SinkState, Wrote}
@@ -16,9 +16,9 @@ use Rattle.sota_app.specs.declared.reply.Reply.{Reply}
 use Rattle.sota_app.specs.declared.reply.Reply.TheVariants as replies
 use Rattle.sota_app.specs.declared.words.Request.{Request}
 use Rattle.sota_app.specs.declared.status.Status.{Status}
-use Rattle.sota_app.proofs.WorkValid.{Graphs, Texts, Weights, work_valid}
-use Rattle.sota_app.proofs.EachLine.{Built, Kept, line_in_text, answered_reply, ask_keeps}
-use Rattle.sota_app.proofs.EachLine.{keeps_network}
+use Rattle.sota_app.specs.Words.{IsSized}
+use Rattle.sota_app.proofs.WorkValid.{Graphs, Texts, Weights, Makes, work_valid}
+use Rattle.sota_app.proofs.EachLine.{line_in_text, answered_reply, ask_keeps}
 
 -- the request means this work
 abbrev pub Means : Option Request → Files → Work → Type 0
@@ -67,15 +67,8 @@ line_written line words o files result d e s t answered lines work place all =
     all.made.text
 
 -- the network of the line is one
-pub means_network : Graphs → Texts → Weights → (o : Option Request) (files : Files) (work : Work)
-    → Means o files work → IsNet work.net
-means_network graphs texts weights None files work h = absurd h
-means_network graphs texts weights (Some request) files work h =
-    work_valid graphs texts weights request files work h
-
-pub line_valid : Graphs → Texts → Weights → Built → Kept → (line : AskLine) (o : Option Request)
-    (files : Files) (lines : List ScriptLine)
-    → Means o files (record { net = line.net; job = play lines }) → IsNet (line_net line)
-line_valid graphs texts weights built kept line o files lines h =
-    keeps_network built kept line.above line.net
-    (means_network graphs texts weights o files (record { net = line.net; job = play lines }) h)
+pub means_network : Graphs → Texts → Weights → Makes → (o : Option Request) → IfSome o IsSized
+    → (files : Files) (work : Work) → Means o files work → IsNet work.net
+means_network graphs texts weights makes None sized files work h = absurd h
+means_network graphs texts weights makes (Some request) sized files work h =
+    work_valid graphs texts weights makes request sized files work h

@@ -11,10 +11,15 @@ use Rattle.sota_app.specs.Outputs.{Output, NextBegun, Begun, StoreMissed, Stoppe
 use Rattle.sota_app.specs.Outputs.{only_line}
 use Rattle.sota_app.specs.Replies.{some_refused, lines_status}
 use Rattle.sota_app.specs.Verdicts.{verdict_status}
-use Rattle.sota_app.specs.Script.{replies_to}
+use Rattle.sota_app.specs.Script.{session_ask, replies_to}
+use Rattle.sota_app.specs.Shown.{plan_result}
+use Rattle.sota_app.specs.declared.showing.Plan.{Plan}
+use Rattle.sota_session.specs.declared.ask.Ask.{Ask}
+use Rattle.sota_session.specs.declared.ask.AskFault.{AskFault}
 use Rattle.sota_app.specs.InputFaults.{fault_line}
-use Rattle.sota_app.specs.Outcome.{Outcome, outcome_of, Job, play, judge, Work, work_of}
-use Rattle.sota_app.specs.Outcome.{job_outcome, work_outcome, refused_words}
+use Rattle.sota_app.specs.Outcome.{Outcome, outcome_of, Job, play, judge, replay, show}
+use Rattle.sota_app.specs.Outcome.{Work, work_of, work_outcome}
+use Rattle.sota_app.specs.Outcome.{plan_outcome, job_outcome, refused_words}
 use Rattle.sota_app.specs.Causes.{Cause, Ended, Delivered, Known, Took, UnreadInput, Stands}
 use Rattle.sota_app.specs.Causes.{CanMiss, status_of}
 use Rattle.sota_app.specs.Inputs.{OnlyTook, InputAnswers, NoInputWritten}
@@ -125,6 +130,14 @@ verdict_cause : (cause : Option Rejection) (request : Request) (d e : DeskState)
 verdict_cause None request d e s t stands = stands
 verdict_cause (Some cause) request d e s t stands = stands
 
+shown_cause : (net : Net) (ask : Ask) (result : Result Plan AskFault) (request : Request)
+    (d e : DeskState) (s t : SinkState)
+    → Stands (plan_outcome net ask result).status (Some request) d e s t
+    → Cause (plan_outcome net ask result).status (Some request) d e s t
+shown_cause net ask (Ok plan) request d e s t stands =
+    verdict_cause (rejection net plan.table) request d e s t stands
+shown_cause net ask (Err fault) request d e s t stands = stands
+
 done_cause : (net : Net) (job : Job) (request : Request) (d e : DeskState) (s t : SinkState)
     → Stands (job_outcome net job).status (Some request) d e s t
     → Cause (job_outcome net job).status (Some request) d e s t
@@ -132,6 +145,10 @@ done_cause net (play lines) request d e s t stands =
     lines_cause (some_refused (replies_to net lines)) request d e s t stands
 done_cause net (judge table) request d e s t stands =
     verdict_cause (rejection net table) request d e s t stands
+done_cause net (replay table trips) request d e s t stands =
+    verdict_cause (rejection net table) request d e s t stands
+done_cause net (show ask) request d e s t stands =
+    shown_cause net (session_ask ask) (plan_result net (session_ask ask)) request d e s t stands
 
 ok_cause : (work : Work) (request : Request) (result : Result Status Stop) (d e : DeskState)
     (s t : SinkState) → Known d (λ files. work_of request files ≡ Ok work)

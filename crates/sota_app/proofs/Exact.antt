@@ -7,6 +7,7 @@ use Rattle.sota_edge.specs.Desk.{Files, DeskState}
 use Rattle.sota_edge.specs.Sink.{SinkState, Wrote}
 use Rattle.sota_edge.specs.Counts.{Rose}
 use Rattle.sota_network.specs.Network.{Net}
+use Rattle.sota_app.specs.Requests.{FileRequest}
 use Rattle.sota_app.specs.Outcome.{outcome_of, no_input, refused_words, graph_of, is_dash}
 use Rattle.sota_app.specs.Outcome.{with_hists}
 use Rattle.sota_app.specs.Outcome.{network_of, script_of, table_of, work_of, work_outcome}
@@ -56,17 +57,18 @@ unread_network graph hists files d e tells calm h = elim h [
 ]
 
 -- an input after a network
-unread_last : {A B : Type 0} (graph hists name : List ℕ) (last : Result A NoInput)
+unread_last : {A B : Type 0} (names : FileRequest) (last : Result A NoInput)
     (next : Net → A → Result B NoInput) (files : Files) (d e : DeskState) → d.holds ≡ Some files
-    → (Rose d.load_faults e.load_faults → ⊥) → (files name ≡ None → last ≡ Err ends.Unread)
-    → UnreadLast graph hists name d e
-    → (network_of graph hists files >>= λ net. last >>= next net) ≡ Err ends.Unread
-unread_last graph hists name last next files d e tells calm gone h = elim h [
-  | inl unread ↦ rw (unread_network graph hists files d e tells calm unread) refl
+    → (Rose d.load_faults e.load_faults → ⊥) → (files names.file ≡ None → last ≡ Err ends.Unread)
+    → UnreadLast names d e
+    → (network_of names.graph names.hists files >>= λ net. last >>= next net) ≡ Err ends.Unread
+unread_last names last next files d e tells calm gone h = elim h [
+  | inl unread ↦
+      rw (unread_network names.graph names.hists files d e tells calm unread) refl
   | inr after ↦
       let none : last ≡ Err ends.Unread =
-      gone (unread_gone name files d e tells calm after.1) in
-      err_after (network_of graph hists files) _ ends.Unread
+      gone (unread_gone names.file files d e tells calm after.1) in
+      err_after (network_of names.graph names.hists files) _ ends.Unread
       (at_files d.holds files _ tells after.0) (λ net. rw none refl)
 ]
 
@@ -76,11 +78,15 @@ unread_work : (request : Request) (files : Files) (d e : DeskState) → d.holds 
 unread_work (requests.Ask ask) files d e tells calm h =
     rw (unread_network ask.graph ask.hists files d e tells calm h) refl
 unread_work (requests.Run run) files d e tells calm h =
-    unread_last run.graph run.hists run.script (script_of run.script files) _ files d e tells calm
-    (λ (none : files run.script ≡ None). rw none refl) h
+    unread_last run (script_of run.file files) _ files d e tells calm
+    (λ (none : files run.file ≡ None). rw none refl) h
 unread_work (requests.Check check) files d e tells calm h =
-    unread_last check.graph check.hists check.policy (table_of check.policy files) _ files d e
-    tells calm (λ (none : files check.policy ≡ None). rw none refl) h
+    unread_last check (table_of check.file files) _ files d e tells calm
+    (λ (none : files check.file ≡ None). rw none refl) h
+unread_work (requests.Replay words) files d e tells calm h =
+    unread_last words.names (table_of words.names.file files) _ files d e tells calm
+    (λ (none : files words.names.file ≡ None). rw none refl) h
+unread_work (requests.Make make) files d e tells calm h = absurd h
 
 unread_outcome : (o : Option Request) (files : Files) (d e : DeskState) (s t : SinkState)
     → d.holds ≡ Some files → NoFault d e s t → t ≡ s → e.holds ≡ d.holds
@@ -101,14 +107,18 @@ words_outcome None files d e s t is wrote same = record {
 }
 
 -- what is done stands
-pub done_stands : (o : Option Request) (files : Files) (d e : DeskState) (s t : SinkState)
-    → d.holds ≡ Some files → Cause Done o d e s t → Delivered (outcome_of o files) Done d e s t
-done_stands o files d e s t tells cause = at_files d.holds files _ tells (some_request o _ cause)
+pub done_stands : (status : Status) (o : Option Request) (files : Files) (d e : DeskState)
+    (s t : SinkState) → status ≡ Done → d.holds ≡ Some files → Cause status o d e s t
+    → Delivered (outcome_of o files) Done d e s t
+done_stands status o files d e s t is tells cause =
+    at_files d.holds files _ tells
+    (some_request o _ (subst (λ (status : Status). Cause status o d e s t) is cause))
 
 pub exact : (result : Status) (o : Option Request) (files : Files) (d e : DeskState)
     (s t : SinkState) → d.holds ≡ Some files → NoFault d e s t → result ≢ NoMemory
     → Cause result o d e s t → Delivered (outcome_of o files) result d e s t
-exact Done o files d e s t tells none ran cause = done_stands o files d e s t tells cause
+exact Done o files d e s t tells none ran cause =
+    at_files d.holds files _ tells (some_request o _ cause)
 exact SomeRefused o files d e s t tells none ran cause =
     at_files d.holds files _ tells (some_request o _ cause)
 exact Input o files d e s t tells none ran cause =

@@ -10,4 +10,9 @@ pub mod Ends
 pub mod EachLine
 pub mod Answered
 pub mod Judged
+pub mod Sized
+pub mod PlanCells
+pub mod ShownPlan
+pub mod ThreeLines
+pub mod MeantBounds
 pub mod Prefixes

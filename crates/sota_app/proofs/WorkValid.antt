@@ -9,8 +9,12 @@ use Rattle.sota_network.specs.Network.{Net, IsNet}
 use Rattle.sota_histcsv.specs.Certain.{certain_net}
 use Rattle.sota_histcsv.specs.Histograms.{hist_net}
 use Rattle.sota_app.specs.Outcome.{or_input_fault, input_bytes, read_graph, graph_of, certain_hists}
-use Rattle.sota_app.specs.Outcome.{read_hists, is_dash, with_hists, network_of, script_of, table_of, Work}
-use Rattle.sota_app.specs.Outcome.{work_of}
+use Rattle.sota_make.specs.Made.{is_size, made}
+use Rattle.sota_app.specs.Requests.{FileRequest}
+use Rattle.sota_app.specs.Words.{IsSized}
+use Rattle.sota_app.specs.Script.{script_lines}
+use Rattle.sota_app.specs.Outcome.{read_hists, is_dash, with_hists, network_of, script_of}
+use Rattle.sota_app.specs.Outcome.{table_of, Job, play, judge, replay, Work, work_of}
 use Rattle.sota_app.specs.declared.input.Input.TheVariants as inputs
 use Rattle.sota_app.specs.declared.input.InputFault.{InputFault}
 use Rattle.sota_app.specs.declared.input.NoInput.{NoInput}
@@ -27,6 +31,10 @@ Texts = (bytes : List ℕ) (graph : RawGraph) (net : Net) → IsGraph graph
 
 abbrev pub Weights : Type 0
 Weights = (graph : RawGraph) (net : Net) → IsGraph graph → certain_net graph ≡ Ok net → IsNet net
+
+abbrev pub Makes : Type 0
+Makes = (seed nodes arcs span : ℕ) → is_size nodes arcs span ≡ true
+    → IsNet (made seed nodes arcs span)
 
 was_ok : {A E : Type 0} (fault_of : E → InputFault) (read : Result A E) (value : A)
     → or_input_fault fault_of read ≡ Ok value → read ≡ Ok value
@@ -75,19 +83,31 @@ accepted work = Ok work
 net_is : (made work : Work) → accepted made ≡ accepted work → made.net ≡ work.net
 net_is made work e = let same : made ≡ work = cc in ap (λ (w : Work). w.net) same
 
-pub work_valid : Graphs → Texts → Weights → (request : Request) (files : Files) (work : Work)
-    → work_of request files ≡ Ok work → IsNet work.net
-work_valid graphs texts weights (requests.Ask ask) files work e =
+-- the network of work on a network and one file more
+named_valid : {A : Type 0} → Graphs → Texts → Weights → (names : FileRequest) (files : Files)
+    (last : Result A NoInput) (job : A → Job) (work : Work)
+    → (network_of names.graph names.hists files >>= λ net. last >>= λ value.
+    accepted (record { net = net; job = job value })) ≡ accepted work
+    → IsNet work.net
+named_valid graphs texts weights names files last job work e =
+    let h = followed (network_of names.graph names.hists files) _ work e in
+    let k = followed last _ work h.next_is in
+    subst IsNet (net_is _ work k.next_is)
+    (network_valid graphs texts weights names.graph names.hists files h.first h.first_is)
+
+pub work_valid : Graphs → Texts → Weights → Makes → (request : Request) → IsSized request
+    → (files : Files) (work : Work) → work_of request files ≡ Ok work → IsNet work.net
+work_valid graphs texts weights makes (requests.Ask ask) sized files work e =
     let h = followed (network_of ask.graph ask.hists files) _ work e in
     subst IsNet (net_is _ work h.next_is)
     (network_valid graphs texts weights ask.graph ask.hists files h.first h.first_is)
-work_valid graphs texts weights (requests.Run run) files work e =
-    let h = followed (network_of run.graph run.hists files) _ work e in
-    let k = followed (script_of run.script files) _ work h.next_is in
-    subst IsNet (net_is _ work k.next_is)
-    (network_valid graphs texts weights run.graph run.hists files h.first h.first_is)
-work_valid graphs texts weights (requests.Check check) files work e =
-    let h = followed (network_of check.graph check.hists files) _ work e in
-    let k = followed (table_of check.policy files) _ work h.next_is in
-    subst IsNet (net_is _ work k.next_is)
-    (network_valid graphs texts weights check.graph check.hists files h.first h.first_is)
+work_valid graphs texts weights makes (requests.Run run) sized files work e =
+    named_valid graphs texts weights run files (script_of run.file files)
+    (λ script. play (script_lines script)) work e
+work_valid graphs texts weights makes (requests.Check check) sized files work e =
+    named_valid graphs texts weights check files (table_of check.file files) judge work e
+work_valid graphs texts weights makes (requests.Replay words) sized files work e =
+    named_valid graphs texts weights words.names files (table_of words.names.file files)
+    (λ table. replay table words.trips) work e
+work_valid graphs texts weights makes (requests.Make make) sized files work e =
+    subst IsNet (net_is _ work e) (makes make.seed make.nodes make.arcs make.span sized)

@@ -11,6 +11,7 @@ use Rattle.sota_polfile.specs.Words as policies
 use Rattle.sota_app.specs.Outputs.{Made, Begun, StoreMissed}
 use Rattle.sota_app.specs.Outcome.{Outcome, outcome_of, refused_words}
 use Rattle.sota_app.specs.Outcome.{graph_of, network_of, is_dash}
+use Rattle.sota_app.specs.Requests.{FileRequest}
 use Rattle.sota_app.specs.InputFaults.{fault_place, fault_line}
 use Rattle.sota_app.specs.declared.input.InputFault.{InputFault}
 use Rattle.sota_app.specs.declared.input.InputFault.TheVariants.{TooLong, Graph, Hists, Policy}
@@ -48,18 +49,19 @@ abbrev pub UnreadNetwork : List ℕ → List ℕ → DeskState → DeskState →
 UnreadNetwork graph hists old new =
     Unread graph old new ⊎ (Accepted (graph_of graph) old × UnreadHists hists old new)
 
--- an input after those of a network
-abbrev pub UnreadLast : List ℕ → List ℕ → List ℕ → DeskState → DeskState → Type 0
-UnreadLast graph hists name old new =
-    UnreadNetwork graph hists old new
-    ⊎ (Accepted (network_of graph hists) old × Unread name old new)
+-- an input of a network, or the one after them
+abbrev pub UnreadLast : FileRequest → DeskState → DeskState → Type 0
+UnreadLast names old new =
+    UnreadNetwork names.graph names.hists old new
+    ⊎ (Accepted (network_of names.graph names.hists) old × Unread names.file old new)
 
 -- an input of the request
 abbrev pub UnreadInput : Request → DeskState → DeskState → Type 0
 UnreadInput (requests.Ask ask) old new = UnreadNetwork ask.graph ask.hists old new
-UnreadInput (requests.Run run) old new = UnreadLast run.graph run.hists run.script old new
-UnreadInput (requests.Check check) old new =
-    UnreadLast check.graph check.hists check.policy old new
+UnreadInput (requests.Run run) old new = UnreadLast run old new
+UnreadInput (requests.Check check) old new = UnreadLast check old new
+UnreadInput (requests.Replay words) old new = UnreadLast words.names old new
+UnreadInput (requests.Make make) old new = ⊥
 
 -- a fault of what stands in a text; want of memory is none
 abbrev pub IsOfText : InputFault → Type 0

@@ -6,8 +6,10 @@ use Rattle.sota_edge.specs.Desk.{Files, DeskState}
 use Rattle.sota_edge.specs.Sink.{SinkState}
 use Rattle.sota_app.specs.Outputs.{LineEnds}
 use Rattle.sota_app.specs.InputFaults.{fault_line}
-use Rattle.sota_app.specs.Outcome.{Job, play, judge, Work}
-use Rattle.sota_app.specs.Script.{ScriptLine, ask_on, script_lines}
+use Rattle.sota_app.specs.Outcome.{Job, play, judge, replay, show, Work}
+use Rattle.sota_network.specs.Network.{Net}
+use Rattle.sota_app.specs.Shown.{HoldsUnlessRefused}
+use Rattle.sota_app.specs.Script.{ScriptLine, ask_on, session_ask, script_lines}
 use Rattle.sota_app.specs.Causes.{Known, Took, IsOfText}
 use Rattle.sota_app.specs.declared.inputs.Script.{Script}
 use Rattle.sota_app.specs.declared.inputs.Script.TheVariants as scripts
@@ -17,6 +19,7 @@ use Rattle.sota_app.specs.declared.inputs.Task.{Task}
 use Rattle.sota_app.specs.declared.input.NoInput.{NoInput}
 use Rattle.sota_app.specs.declared.input.NoInput.TheVariants as ends
 use Rattle.sota_app.specs.declared.status.Status.{Status}
+use Rattle.sota_app.specs.declared.status.Status.TheVariants.{Done, SomeRefused}
 use Rattle.sota_app.specs.declared.status.Status.TheVariants.{Input, ReadFault, NoMemory}
 use Rattle.sota_app.specs.declared.stop.Stop.{Stop}
 
@@ -28,6 +31,8 @@ lines_of (scripts.Text script) = script_lines script.items
 abbrev pub job_of : TaskJob → Job
 job_of (jobs.Play script) = play (lines_of script)
 job_of (jobs.Judge table) = judge table
+job_of (jobs.Replay table trips) = replay table trips
+job_of (jobs.Show ask) = show ask
 
 abbrev pub task_work : Task → Work
 task_work task = record { net = task.network; job = job_of task.job }
@@ -40,6 +45,8 @@ IsShort (scripts.Text script) = length script.items ≤ TEXT_LIMIT
 abbrev pub IsShortJob : TaskJob → Type 0
 IsShortJob (jobs.Play script) = IsShort script
 IsShortJob (jobs.Judge table) = Unit {0}
+IsShortJob (jobs.Replay table trips) = Unit {0}
+IsShortJob (jobs.Show ask) = Unit {0}
 
 -- nothing changed in the desk but what was taken
 pub record OnlyTook (old new : DeskState) : Type 0 where
@@ -75,3 +82,16 @@ NoInputWritten (ends.Fault fault) result old new =
     LineEnds result (fault_line fault) old new × IfOk result (λ status. status ≡ Input)
 NoInputWritten ends.Unread result old new = (result ≡ Ok ReadFault) × (new ≡ old)
 NoInputWritten ends.NoMemory result old new = (result ≡ Ok NoMemory) × (new ≡ old)
+
+-- a job was done
+abbrev pub IsWorked : Status → Type 0
+IsWorked Done = Unit {0}
+IsWorked SomeRefused = Unit {0}
+IsWorked _ = ⊥
+
+-- the policy of an ask that was planned holds
+abbrev pub JobHolds : Net → Job → Type 0
+JobHolds net (play lines) = Unit {0}
+JobHolds net (judge table) = Unit {0}
+JobHolds net (replay table trips) = Unit {0}
+JobHolds net (show ask) = HoldsUnlessRefused net (session_ask ask)

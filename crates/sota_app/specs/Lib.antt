@@ -6,6 +6,7 @@ pub mod Replies
 pub mod Script
 pub mod InputFaults
 pub mod Verdicts
+pub mod Shown
 pub mod Outcome
 pub mod Causes
 pub mod Inputs

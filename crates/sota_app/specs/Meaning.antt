@@ -9,13 +9,19 @@ use Rattle.sota_network.specs.Grid.{choice}
 use Rattle.sota_network.specs.Trees.{Tree, Encloses, Fits, score, follow}
 use Rattle.sota_script.specs.declared.command.Ask3.{Ask3}
 use Rattle.sota_session.specs.Asks.{ask_fault}
+use Rattle.sota_session.specs.Plans.{plan_table}
 use Rattle.sota_polfile.specs.Table.{Table}
 use Rattle.sota_check.specs.Certified.{rule, IsCertified}
+use Rattle.sota_replay.specs.Tally.{replayed, trip_count}
+use Rattle.sota_app.specs.declared.words.Trips.{Trips}
 use Rattle.sota_app.specs.Words.{request_of}
 use Rattle.sota_app.specs.Replies.{answer_line, replies_text}
 use Rattle.sota_app.specs.Script.{ScriptLine, ask_on, session_ask, network_after, replies_to}
-use Rattle.sota_app.specs.Verdicts.{named, accepted_line}
-use Rattle.sota_app.specs.Outcome.{play, judge, work_of}
+use Rattle.sota_app.specs.Verdicts.{named, accepted_line, trips_line}
+use Rattle.sota_app.specs.Shown.{made_line}
+use Rattle.sota_app.specs.declared.status.Status.{Status}
+use Rattle.sota_app.specs.declared.status.Status.TheVariants.{Done}
+use Rattle.sota_app.specs.Outcome.{Job, play, judge, replay, show, work_of}
 
 -- an ask on the line of this number, between the lines above it and those below it, over the
 -- network of the files
@@ -77,10 +83,14 @@ pub record Meant (line : AskLine) (old new : SinkState) : Type 0 where
 
 -- ---- a policy that is accepted
 
+-- the words are a request to do this on this network
+abbrev pub IsJob : List (List ℕ) → Files → Net → Job → Type 0
+IsJob words files net job = IsSomeAnd (request_of words) (λ request.
+    work_of request files ≡ Ok (record { net = net; job = job }))
+
 -- the words are a request to judge this policy on this network
 abbrev pub IsJudged : List (List ℕ) → Files → Net → Table → Type 0
-IsJudged words files net table = IsSomeAnd (request_of words) (λ request.
-    work_of request files ≡ Ok (record { net = net; job = judge table }))
+IsJudged words files net table = IsJob words files net (judge table)
 
 -- the tree of a traveller who takes the arcs of a policy from its origin with its whole budget
 abbrev pub journey : Net → Table → Tree
@@ -97,3 +107,42 @@ pub record Attested (net : Net) (table : Table) (old new : SinkState) : Type 0 w
   pub attains : (named table).lower * net.scale ^ table.head.budget
       ≤ ONE * score net table.head.dest table.head.origin table.head.budget (journey net table)
   pub whole : (named table).lower ≤ ONE
+
+-- ---- trips that follow a policy
+
+-- the words are a request to replay trips that follow this policy on this network
+abbrev pub IsReplayed : List (List ℕ) → Files → Net → Table → Trips → Type 0
+IsReplayed words files net table trips = IsJob words files net (replay table trips)
+
+-- The line 'trips N arrived A late B stuck C lost E' was written, with the tally of so many trips
+-- by the words of the seed, of which each is counted once. Each entry of the policy holds.
+pub record Replayed (net : Net) (table : Table) (trips : Trips) (old new : SinkState)
+    : Type 0 where
+  pub written : Wrote (trips_line trips.count (replayed net table trips.count trips.seed)) old new
+  pub whole : trip_count (replayed net table trips.count trips.seed) ≡ trips.count
+  pub holds : IsCertified net table
+
+-- ---- the plan of a network that is made
+
+-- the words are a request to plan this ask on this network, and it is not refused
+pub record IsShown (words : List (List ℕ)) (files : Files) (net : Net) (ask : Ask3) : Type 0 where
+  pub job : IsJob words files net (show ask)
+  pub accepted : ask_fault net (session_ask ask) ≡ None
+
+-- Three lines were written: 'made N M CELLS BYTES', a line 'answer O D T LOWER UPPER ARC' that is
+-- meant so, and 'accepted O D T LOWER' with the same lower bound. Each entry of the policy holds.
+pub record Shown (net : Net) (ask : Ask3) (status : Status) (old new : SinkState) : Type 0 where
+  pub done : status ≡ Done
+  pub lower : ℕ
+  pub upper : ℕ
+  pub next : Option ℕ
+  pub written : Wrote (made_line net (plan_table net (session_ask ask))
+      ++ (answer_line (session_ask ask) (record { lower = lower; upper = upper; next = next })
+      ++ accepted_line (record {
+        origin = ask.origin;
+        dest = ask.dest;
+        budget = ask.budget;
+        lower = lower;
+      }))) old new
+  pub meant : IsMeant net ask lower upper next
+  pub holds : IsCertified net (plan_table net (session_ask ask))

@@ -1,6 +1,6 @@
 -- What the words and the files mean: the outputs, which are lines and stored files in their order,
 -- and a status.
-use Rattle.std.specs.Prelude.{ℕ, List, [], ◌∷◌, nat_lt, length, Option, Some, None, Result}
+use Rattle.std.specs.Prelude.{ℕ, List, [], ◌∷◌, ◌++◌, nat_lt, length, Option, Some, None, Result}
 use Rattle.std.specs.Prelude.{Ok, Err}
 use Rattle.std.specs.Prelude.{Bool, if◌then◌else◌, codes}
 use Rattle.std.specs.Str.{bytes_eq}
@@ -16,9 +16,15 @@ use Rattle.sota_polfile.specs.Faults.{policy_of}
 use Rattle.sota_check.specs.Rejected.{rejection}
 use Rattle.sota_app.specs.Words.{request_of}
 use Rattle.sota_app.specs.Outputs.{Output, only_line}
-use Rattle.sota_app.specs.Replies.{outputs_of, replies_status}
-use Rattle.sota_app.specs.Verdicts.{verdict_line, verdict_status}
-use Rattle.sota_app.specs.Script.{ScriptLine, ask_on, script_lines, replies_to}
+use Rattle.sota_app.specs.Replies.{answer_line, refused_line, outputs_of, replies_status}
+use Rattle.sota_app.specs.Shown.{net_made, ask_made, made_line, plan_result}
+use Rattle.sota_app.specs.declared.showing.Plan.{Plan}
+use Rattle.sota_app.specs.declared.reply.Refusal.TheVariants as refusals
+use Rattle.sota_script.specs.declared.command.Ask3.{Ask3}
+use Rattle.sota_session.specs.declared.ask.Ask.{Ask}
+use Rattle.sota_session.specs.declared.ask.AskFault.{AskFault}
+use Rattle.sota_app.specs.Verdicts.{verdict_line, replay_line, verdict_status}
+use Rattle.sota_app.specs.Script.{ScriptLine, ask_on, session_ask, script_lines, replies_to}
 use Rattle.sota_app.specs.InputFaults.{input_limit, fault_line}
 use Rattle.sota_app.specs.declared.reply.Reply.{Reply}
 use Rattle.sota_app.specs.declared.input.Input.{Input}
@@ -27,6 +33,7 @@ use Rattle.sota_app.specs.declared.input.InputFault.{InputFault}
 use Rattle.sota_app.specs.declared.input.InputFault.TheVariants as faults
 use Rattle.sota_app.specs.declared.input.NoInput.{NoInput}
 use Rattle.sota_app.specs.declared.input.NoInput.TheVariants as ends
+use Rattle.sota_app.specs.declared.words.Trips.{Trips}
 use Rattle.sota_app.specs.declared.words.Request.{Request}
 use Rattle.sota_app.specs.declared.words.Request.TheVariants as requests
 use Rattle.sota_app.specs.declared.status.Status.{Status}
@@ -84,10 +91,13 @@ table_of name files = input_bytes inputs.Policy (files name) >>= read_table
 
 -- ---- requests
 
--- what is to be done on a network: lines are to be played, or a policy is to be judged
+-- what is to be done on a network: lines are to be played, or a policy is to be judged, or trips
+-- are to follow it besides, or an ask is to be planned and its policy judged
 pub data Job : Type 0 where
   play : List ScriptLine → Job
   judge : Table → Job
+  replay : Table → Trips → Job
+  show : Ask3 → Job
 
 pub record Work : Type 0 where
   pub net : Net
@@ -100,12 +110,18 @@ work_of (requests.Ask ask) files = do
   Ok (record { net = net; job = play (ask_on 1 ask.ask ∷ []) })
 work_of (requests.Run run) files = do
   net ← network_of run.graph run.hists files
-  script ← script_of run.script files
+  script ← script_of run.file files
   Ok (record { net = net; job = play (script_lines script) })
 work_of (requests.Check check) files = do
   net ← network_of check.graph check.hists files
-  table ← table_of check.policy files
+  table ← table_of check.file files
   Ok (record { net = net; job = judge table })
+work_of (requests.Replay words) files = do
+  net ← network_of words.names.graph words.names.hists files
+  table ← table_of words.names.file files
+  Ok (record { net = net; job = replay table words.trips })
+work_of (requests.Make make) files =
+    Ok (record { net = net_made make; job = show (ask_made make) })
 
 -- ---- outcomes
 
@@ -124,9 +140,35 @@ judged net table = record {
   status = verdict_status (rejection net table);
 }
 
+-- the tally of trips, where the policy is not rejected
+abbrev pub replayed : Net → Table → Trips → Outcome
+replayed net table trips = record {
+  outputs = only_line (replay_line net table trips (rejection net table));
+  status = verdict_status (rejection net table);
+}
+
+-- what was made, the answer, and the verdict on its policy; an ask that is refused has its one
+-- reply
+abbrev pub plan_outcome : Net → Ask → Result Plan AskFault → Outcome
+plan_outcome net ask (Ok plan) = record {
+  outputs = only_line (made_line net plan.table)
+      ++ (only_line (answer_line ask plan.answer)
+      ++ only_line (verdict_line plan.table (rejection net plan.table)));
+  status = verdict_status (rejection net plan.table);
+}
+plan_outcome net ask (Err fault) = record {
+  outputs = only_line (refused_line 1 (refusals.Ask fault));
+  status = statuses.SomeRefused;
+}
+
+abbrev pub shown : Net → Ask → Outcome
+shown net ask = plan_outcome net ask (plan_result net ask)
+
 abbrev pub job_outcome : Net → Job → Outcome
 job_outcome net (play lines) = replied (replies_to net lines)
 job_outcome net (judge table) = judged net table
+job_outcome net (replay table trips) = replayed net table trips
+job_outcome net (show ask) = shown net (session_ask ask)
 
 -- an input that is not accepted; want of memory is never the meaning of files
 abbrev pub no_input : NoInput → Outcome

@@ -11,7 +11,9 @@ use Rattle.sota_session.specs.declared.ask.Answer.{Answer}
 use Rattle.sota_session.specs.Answers as asks
 use Rattle.sota_session.specs.Words.{ask_word, ask_count, edit_word}
 use Rattle.sota_session.specs.declared.edit.EditFault.TheVariants as edits
+use Rattle.sota_route.specs.Faults as routes
 use Rattle.sota_app.specs.Outputs.{Output}
+use Rattle.sota_app.specs.declared.reply.Bracket.{Bracket}
 use Rattle.sota_app.specs.declared.reply.NamedFile.{NamedFile}
 use Rattle.sota_app.specs.declared.reply.Reply.{Reply}
 use Rattle.sota_app.specs.declared.reply.Reply.TheVariants as replies
@@ -29,16 +31,19 @@ is_shortage (refusals.Time fault) = times.is_shortage fault
 is_shortage (refusals.Edit edits.NoMemory) = true
 is_shortage (refusals.Edit fault) = false
 is_shortage (refusals.Ask fault) = asks.is_shortage fault
+is_shortage (refusals.Route fault) = routes.is_shortage fault
 
 abbrev pub refusal_word : Refusal → List ℕ
 refusal_word (refusals.Line fault) = lines.fault_word fault
 refusal_word (refusals.Time fault) = time_words.fault_word fault
 refusal_word (refusals.Edit fault) = edit_word fault
 refusal_word (refusals.Ask fault) = ask_word fault
+refusal_word (refusals.Route fault) = routes.route_word fault
 
--- the count that exceeds a limit of size
+-- the count that exceeds a limit of size, or the place in a route
 abbrev pub refusal_count : Refusal → Option ℕ
 refusal_count (refusals.Ask fault) = ask_count fault
+refusal_count (refusals.Route fault) = routes.route_number fault
 refusal_count _ = None
 
 -- ---- one reply
@@ -65,6 +70,13 @@ closed_line arc = codes "closed " ++ decimal arc ++ codes "\n"
 abbrev pub stored_line : List ℕ → List ℕ
 stored_line name = codes "stored " ++ name ++ codes "\n"
 
+-- 'route D T LOWER UPPER K'
+abbrev pub bracket_line : Bracket → List ℕ
+bracket_line bracket =
+    codes "route " ++ decimal bracket.dest ++ codes " " ++ decimal bracket.budget ++ codes " "
+    ++ grain_spelling bracket.answer.lower ++ codes " " ++ grain_spelling bracket.answer.upper
+    ++ codes " " ++ decimal bracket.arcs ++ codes "\n"
+
 abbrev pub count_text : Option ℕ → List ℕ
 count_text None = []
 count_text (Some count) = codes " " ++ decimal count
@@ -80,6 +92,7 @@ reply_line (replies.Answered ask answer) = answer_line ask answer
 reply_line (replies.Edited arc) = edited_line arc
 reply_line (replies.Closed arc) = closed_line arc
 reply_line (replies.Stored file) = stored_line file.name
+reply_line (replies.Bracketed bracket) = bracket_line bracket
 reply_line (replies.Refused line refusal) = refused_line line refusal
 
 -- the file that is stored before it

@@ -8,14 +8,8 @@ pub record AskRequest : Type 0 where
   pub hists : List ℕ
   pub ask : Ask3
 
--- 'run GRAPH HISTS SCRIPT': the three names
-pub record RunRequest : Type 0 where
+-- 'GRAPH HISTS FILE': the three names
+pub record FileRequest : Type 0 where
   pub graph : List ℕ
   pub hists : List ℕ
-  pub script : List ℕ
-
--- 'check GRAPH HISTS POLICY': the three names
-pub record CheckRequest : Type 0 where
-  pub graph : List ℕ
-  pub hists : List ℕ
-  pub policy : List ℕ
+  pub file : List ℕ

@@ -1,6 +1,7 @@
 -- What the lines of a script do to a network, and what is replied to them. A reply may come with a
 -- file, which is stored before it.
-use Rattle.std.specs.Prelude.{ℕ, List, [], ◌∷◌, ◌++◌, map, fold, is_some, option_to_list}
+use Rattle.std.specs.Prelude.{ℕ, List, [], ◌∷◌, ◌++◌, map, fold, length, is_some}
+use Rattle.std.specs.Prelude.{option_to_list}
 use Rattle.std.specs.Prelude.{Option, Some, None, option_map, Result, Ok, Err, if◌then◌else◌}
 use Rattle.std.specs.Option.{option_or}
 use Rattle.sota_text.specs.Text.{numbered_lines}
@@ -14,8 +15,11 @@ use Rattle.sota_script.specs.declared.fault.LineFault.{LineFault}
 use Rattle.sota_polfile.specs.Spelling.{spelling}
 use Rattle.sota_session.specs.Asks.{ask_fault, answer_of}
 use Rattle.sota_session.specs.Plans.{plan_table}
+use Rattle.sota_route.specs.Bounds.{route_answer}
+use Rattle.sota_route.specs.Faults.{route_fault}
 use Rattle.sota_session.specs.declared.ask.Ask.{Ask}
 use Rattle.sota_session.specs.declared.edit.EditFault.TheVariants as edits
+use Rattle.sota_app.specs.declared.reply.Bracket.{Bracket}
 use Rattle.sota_app.specs.declared.reply.NamedFile.{NamedFile}
 use Rattle.sota_app.specs.declared.reply.Reply.{Reply}
 use Rattle.sota_app.specs.declared.reply.Reply.TheVariants as replies
@@ -60,11 +64,22 @@ command_refusal net (commands.Edit arc pairs) =
 command_refusal net (commands.Close arc) = arc_refusal net arc
 command_refusal net (commands.Ask ask) = ask_refusal net ask
 command_refusal net (commands.Policy ask name) = ask_refusal net ask
+command_refusal net (commands.Route dest budget arcs) =
+    option_map (λ fault. refusals.Route fault) (route_fault net dest budget arcs)
 
 -- the policy of an ask under a name
 abbrev pub policy_file : Net → Ask3 → List ℕ → NamedFile
 policy_file net ask name =
     record { name = name; bytes = spelling (plan_table net (session_ask ask)) }
+
+-- the two bounds of a route, with what they are of
+abbrev pub bracket_of : Net → ℕ → ℕ → List ℕ → Bracket
+bracket_of net dest budget arcs = record {
+  dest = dest;
+  budget = budget;
+  answer = route_answer net dest arcs budget;
+  arcs = length arcs;
+}
 
 -- the reply to a command that is not refused, and the network of the lines below it
 pub record Effect : Type 0 where
@@ -84,6 +99,9 @@ effect_of net (commands.Policy ask name) = record {
   reply = replies.Stored (policy_file net ask name);
   next = net;
 }
+
+effect_of net (commands.Route dest budget arcs) =
+    record { reply = replies.Bracketed (bracket_of net dest budget arcs); next = net }
 
 abbrev pub unless_refused : Option Refusal → Effect → Result Effect Refusal
 unless_refused (Some refusal) effect = Err refusal

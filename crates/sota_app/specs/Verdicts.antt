@@ -1,11 +1,15 @@
--- The verdict on a policy, and its line.
+-- The verdict on a policy, the tally of trips that follow it, and their lines.
 use Rattle.std.specs.Prelude.{ℕ, List, [], ◌++◌, Option, None, Some, codes, decimal}
 use Rattle.sota_units.specs.GrainText.{grain_spelling}
+use Rattle.sota_network.specs.Network.{Net}
 use Rattle.sota_polfile.specs.Table.{Table}
 use Rattle.sota_check.specs.Certified.{value}
 use Rattle.sota_check.specs.Words.{cause_word, cause_entry}
 use Rattle.sota_check.specs.declared.verdict.Certified.{Certified}
 use Rattle.sota_check.specs.declared.verdict.Rejection.{Rejection}
+use Rattle.sota_replay.specs.Tally.{replayed}
+use Rattle.sota_replay.specs.declared.tally.Tally.{Tally}
+use Rattle.sota_app.specs.declared.words.Trips.{Trips}
 use Rattle.sota_app.specs.declared.status.Status.{Status}
 use Rattle.sota_app.specs.declared.status.Status.TheVariants.{Done, SomeRefused}
 
@@ -39,6 +43,19 @@ named table = record {
 abbrev pub verdict_line : Table → Option Rejection → List ℕ
 verdict_line table None = accepted_line (named table)
 verdict_line table (Some cause) = rejected_line cause
+
+-- 'trips N arrived A late B stuck C lost E'
+abbrev pub trips_line : ℕ → Tally → List ℕ
+trips_line count tally =
+    codes "trips " ++ decimal count ++ codes " arrived " ++ decimal tally.arrived
+    ++ codes " late " ++ decimal tally.late ++ codes " stuck " ++ decimal tally.stuck
+    ++ codes " lost " ++ decimal tally.lost ++ codes "\n"
+
+-- the tally of trips that follow a policy, unless it is rejected
+abbrev pub replay_line : Net → Table → Trips → Option Rejection → List ℕ
+replay_line net table trips None =
+    trips_line trips.count (replayed net table trips.count trips.seed)
+replay_line net table trips (Some cause) = rejected_line cause
 
 abbrev pub verdict_status : Option Rejection → Status
 verdict_status None = Done

@@ -1,11 +1,15 @@
 -- The requests and their words.
 use Rattle.std.specs.Prelude.{ℕ, List, [], ◌∷◌, Option, Some, None, option_map, option_and_then}
-use Rattle.std.specs.Prelude.{if◌then◌else◌, codes}
+use Rattle.std.specs.Prelude.{◌≡◌, true, nat_le, if◌then◌else◌, codes}
 use Rattle.std.specs.Str.{bytes_eq}
 use Rattle.sota_text.specs.Text.{number_of}
 use Rattle.sota_text.specs.Words.{three}
+use Rattle.sota_make.specs.Made.{is_size}
 use Rattle.sota_script.specs.declared.command.Ask3.{Ask3}
-use Rattle.sota_app.specs.Requests.{AskRequest, RunRequest, CheckRequest}
+use Rattle.sota_app.specs.Requests.{AskRequest, FileRequest}
+use Rattle.sota_app.specs.declared.words.ReplayWords.{ReplayWords}
+use Rattle.sota_app.specs.declared.words.Trips.{Trips}
+use Rattle.sota_app.specs.declared.words.MakeWords.{MakeWords}
 use Rattle.sota_app.specs.declared.words.Request.{Request}
 use Rattle.sota_app.specs.declared.words.Request.TheVariants as requests
 
@@ -28,15 +32,49 @@ ask_request words =
     record { graph = word.0; hists = word.1; ask = ask })
     (ask_of word.2 word.3 word.4)) (five words)
 
--- 'GRAPH HISTS SCRIPT' after 'run'
-abbrev pub run_request : List (List ℕ) → Option RunRequest
-run_request words =
-    option_map (λ word. record { graph = word.0; hists = word.1; script = word.2 }) (three words)
+-- 'GRAPH HISTS SCRIPT' after 'run', and 'GRAPH HISTS POLICY' after 'check'
+abbrev pub file_request : List (List ℕ) → Option FileRequest
+file_request words =
+    option_map (λ word. record { graph = word.0; hists = word.1; file = word.2 }) (three words)
 
--- 'GRAPH HISTS POLICY' after 'check'
-abbrev pub check_request : List (List ℕ) → Option CheckRequest
-check_request words =
-    option_map (λ word. record { graph = word.0; hists = word.1; policy = word.2 }) (three words)
+-- the most trips of a request
+abbrev pub TRIP_LIMIT : ℕ
+TRIP_LIMIT = 1000000
+
+-- a number of trips that is not too great
+abbrev pub few_trips : ℕ → Option ℕ
+few_trips count = if nat_le count TRIP_LIMIT then Some count else None
+
+-- 'TRIPS SEED'
+abbrev pub trips_of : List ℕ → List ℕ → Option Trips
+trips_of count seed =
+    option_and_then (λ n. option_map (λ s. record { count = n; seed = s }) (number_of seed))
+    (option_and_then few_trips (number_of count))
+
+-- 'GRAPH HISTS POLICY TRIPS SEED' after 'replay'
+abbrev pub replay_request : List (List ℕ) → Option ReplayWords
+replay_request words =
+    option_and_then (λ word. option_map (λ trips. record {
+      names = record { graph = word.0; hists = word.1; file = word.2 };
+      trips = trips;
+    }) (trips_of word.3 word.4)) (five words)
+
+-- 'SEED NODES ARCS SPAN T'
+abbrev pub make_of : List ℕ → List ℕ → List ℕ → List ℕ → List ℕ → Option MakeWords
+make_of seed nodes arcs span budget =
+    option_and_then (λ s. option_and_then (λ n. option_and_then (λ a. option_and_then (λ p.
+    option_map (λ t. record { seed = s; nodes = n; arcs = a; span = p; budget = t })
+    (number_of budget)) (number_of span)) (number_of arcs)) (number_of nodes)) (number_of seed)
+
+-- numbers of which a network is made
+abbrev pub if_sized : MakeWords → Option MakeWords
+if_sized make = if is_size make.nodes make.arcs make.span then Some make else None
+
+-- 'SEED NODES ARCS SPAN T' after 'make'
+abbrev pub make_request : List (List ℕ) → Option MakeWords
+make_request words =
+    option_and_then if_sized
+    (option_and_then (λ word. make_of word.0 word.1 word.2 word.3 word.4) (five words))
 
 -- the request of the words after the program's name, where they are one: the first word decides
 abbrev pub request_of : List (List ℕ) → Option Request
@@ -45,7 +83,16 @@ request_of (first ∷ words) =
     if bytes_eq first (codes "ask") then
     option_map (λ request. requests.Ask request) (ask_request words)
     else (if bytes_eq first (codes "run") then
-    option_map (λ request. requests.Run request) (run_request words)
+    option_map (λ request. requests.Run request) (file_request words)
     else (if bytes_eq first (codes "check") then
-    option_map (λ request. requests.Check request) (check_request words)
-    else None))
+    option_map (λ request. requests.Check request) (file_request words)
+    else (if bytes_eq first (codes "replay") then
+    option_map (λ request. requests.Replay request) (replay_request words)
+    else (if bytes_eq first (codes "make") then
+    option_map (λ request. requests.Make request) (make_request words)
+    else None))))
+
+-- a network is made of the numbers of the request, where it has those
+abbrev pub IsSized : Request → Type 0
+IsSized (requests.Make make) = is_size make.nodes make.arcs make.span ≡ true
+IsSized _ = Unit {0}

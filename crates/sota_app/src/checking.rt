@@ -1,17 +1,19 @@
-// The verdict on a policy.
+// The verdict on a policy, and trips that follow it.
 ghost use Rattle.std.specs.Prelude.{◌≡◌, ◌++◌, IfOk, OnOk};
 ghost use Rattle.sota_check.specs.Rejected.{rejection};
 ghost use Rattle.sota_app.specs.Outputs.{LineEnds};
 ghost use Rattle.sota_app.specs.Verdicts.{accepted_line, rejected_line, entry_text};
-ghost use Rattle.sota_app.specs.Verdicts.{verdict_line, verdict_status};
+ghost use Rattle.sota_app.specs.Verdicts.{trips_line, verdict_line, replay_line, verdict_status};
 
 use crate::output::write_line;
 use crate::status::Status;
 use crate::stop::Stop;
+use crate::words::Trips;
 use sota_check::{Certified, Rejection, check};
 use sota_edge::Sink;
 use sota_network::Network;
 use sota_polfile::PolicyTable;
+use sota_replay::{Tally, Words, trips};
 use sota_text::TextOut;
 use sota_units::{NoMemory, grain_text};
 use std::alloc::Global;
@@ -34,11 +36,43 @@ pub fn check_policy<O: Sink>(
             write_line(&accepted_text(alloc, &certified)?, out)?;
             Ok(Status::Done)
         }
-        Err(cause) => {
-            write_line(&rejected_text(alloc, cause)?, out)?;
-            Ok(Status::SomeRefused)
-        }
+        Err(cause) => reject(alloc, cause, out),
     }
+}
+
+/// Judges a policy on a network, and writes how trips end that follow it. Where it is rejected, the
+/// verdict is written and nothing else.
+pub fn replay_policy<O: Sink>(
+    alloc: Global,
+    network: &Network,
+    table: &PolicyTable,
+    asked: Trips,
+    out: &mut O,
+) -> Result<Status, Stop>
+    ensures line { LineEnds result
+        (replay_line network.now table.now asked (rejection network.now table.now))
+        (O.state out.old) (O.state out.new) }
+    ensures status { IfOk result (λ status.
+        status ≡ verdict_status (rejection network.now table.now)) }
+{
+    match check(network, table) {
+        Ok(_) => {
+            let mut words = Words::new(u64::from(asked.seed));
+            let tally = trips(network, table, &mut words, asked.count);
+            write_line(&trips_text(alloc, asked.count, &tally)?, out)?;
+            Ok(Status::Done)
+        }
+        Err(cause) => reject(alloc, cause, out),
+    }
+}
+
+/// Writes the verdict on a policy that is rejected.
+fn reject<O: Sink>(alloc: Global, cause: Rejection, out: &mut O) -> Result<Status, Stop>
+    ensures line { LineEnds result (rejected_line cause) (O.state out.old) (O.state out.new) }
+    ensures status { IfOk result (λ status. status ≡ Status.SomeRefused) }
+{
+    write_line(&rejected_text(alloc, cause)?, out)?;
+    Ok(Status::SomeRefused)
 }
 
 /// The line `accepted O D T LOWER`.
@@ -81,4 +115,23 @@ fn push_entry(text: &mut TextOut, entry: Option<(u32, u32)>) -> Result<(), NoMem
         text.number(u128::from(budget))?;
     }
     Ok(())
+}
+
+/// The line `trips N arrived A late B stuck C lost E`.
+fn trips_text(alloc: Global, count: u32, tally: &Tally) -> Result<TextOut, NoMemory>
+    ensures { IfOk result (λ text. text ≡ trips_line count tally.now) }
+{
+    let mut text = TextOut::new(alloc);
+    text.bytes(b"trips ")?;
+    text.number(u128::from(count))?;
+    text.bytes(b" arrived ")?;
+    text.number(u128::from(tally.arrived))?;
+    text.bytes(b" late ")?;
+    text.number(u128::from(tally.late))?;
+    text.bytes(b" stuck ")?;
+    text.number(u128::from(tally.stuck))?;
+    text.bytes(b" lost ")?;
+    text.number(u128::from(tally.lost))?;
+    text.bytes(b"\n")?;
+    Ok(text)
 }

@@ -1,5 +1,6 @@
 // The inputs of a request, each loaded and read before the next.
-ghost use Rattle.std.specs.Prelude.{◌≡◌, ◌≤◌, length, IfOk};
+ghost use Rattle.std.specs.Prelude.{◌≡◌, ◌≤◌, true, length, Ok, IfOk};
+ghost use Rattle.sota_make.specs.Made.{is_size};
 ghost use Rattle.sota_dimacs.specs.Graph.{IsGraph};
 ghost use Rattle.sota_units.specs.Limits.{TEXT_LIMIT};
 ghost use Rattle.sota_polfile.specs.Limits.{POLICY_LIMIT};
@@ -8,13 +9,16 @@ ghost use Rattle.sota_app.specs.Outcome.{input_bytes, read_graph, graph_of};
 ghost use Rattle.sota_app.specs.Outcome.{certain_hists, read_hists, with_hists, network_of};
 ghost use Rattle.sota_app.specs.Outcome.{read_table, table_of, work_of};
 ghost use Rattle.sota_app.specs.Causes.{Unread, UnreadHists, UnreadNetwork, UnreadInput};
+ghost use Rattle.sota_app.specs.Words.{IsSized};
+ghost use Rattle.sota_app.specs.Shown.{net_made};
 ghost use Rattle.sota_app.specs.Inputs.{TextAnswers, InputAnswers, task_work, IsShortJob};
 
 use crate::input::{Input, InputFault, NoInput};
-use crate::words::Request;
+use crate::words::{MakeWords, Request, Trips};
 use sota_dimacs::{GraphFault, RawGraph, read_graph};
 use sota_edge::{Desk, LoadError};
 use sota_histcsv::{HistFileFault, certain_network, read_histograms};
+use sota_make::{MakeFault, make_network};
 use sota_network::Network;
 use sota_polfile::{PolicyFault, PolicyTable, read_policy};
 use sota_script::Ask3;
@@ -34,6 +38,10 @@ pub enum Job {
     Play(Script),
     /// A policy is to be judged.
     Judge(PolicyTable),
+    /// Trips are to follow a policy.
+    Replay(PolicyTable, Trips),
+    /// An ask is to be planned, and its policy judged.
+    Show(Ask3),
 }
 
 /// Lines that are to be played.
@@ -167,12 +175,32 @@ fn load_policy<D: Desk>(alloc: Global, name: &str, desk: &mut D) -> Result<Polic
     parse_policy(alloc, &bytes)
 }
 
-/// The network of the files that a request names, and what is to be done on it.
+/// The network that is made of the numbers of a request.
+fn make(alloc: Global, words: &MakeWords) -> Result<Network, NoInput>
+    requires { is_size words.now.nodes words.now.arcs words.now.span ≡ true }
+    ensures { TextAnswers result (Ok (net_made words.now)) }
+{
+    match make_network(
+        alloc,
+        u64::from(words.seed),
+        words.nodes,
+        words.arcs,
+        words.span,
+    ) {
+        Ok(network) => Ok(network),
+        Err(MakeFault::NoMemory) => Err(NoInput::NoMemory),
+        Err(MakeFault::Size) => unreachable!(),
+    }
+}
+
+/// The network of the files that a request names, or that is made of its numbers, and what is to be
+/// done on it.
 pub fn load_task<D: Desk>(
     alloc: Global,
     request: &Request<'_>,
     desk: &mut D,
 ) -> Result<Task, NoInput>
+    requires { IsSized request.now }
     ensures read { InputAnswers task_work result (work_of request.now) (UnreadInput request.now)
         (D.state desk.old) (D.state desk.new) }
     ensures short { IfOk result (λ task. IsShortJob task.job) }
@@ -185,13 +213,24 @@ pub fn load_task<D: Desk>(
         }
         Request::Run(words) => {
             let network = load_network(alloc, words.graph, words.hists, desk)?;
-            let text = load_input(alloc, Input::Script, words.script, desk)?;
+            let text = load_input(alloc, Input::Script, words.file, desk)?;
             let job = Job::Play(Script::Text(text));
             Ok(Task { network, job })
         }
         Request::Check(words) => {
             let network = load_network(alloc, words.graph, words.hists, desk)?;
-            let job = Job::Judge(load_policy(alloc, words.policy, desk)?);
+            let job = Job::Judge(load_policy(alloc, words.file, desk)?);
+            Ok(Task { network, job })
+        }
+        Request::Replay(words) => {
+            let names = &words.names;
+            let network = load_network(alloc, names.graph, names.hists, desk)?;
+            let job = Job::Replay(load_policy(alloc, names.file, desk)?, words.trips);
+            Ok(Task { network, job })
+        }
+        Request::Make(words) => {
+            let network = make(alloc, words)?;
+            let job = Job::Show(words.ask());
             Ok(Task { network, job })
         }
     }

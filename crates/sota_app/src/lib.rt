@@ -8,6 +8,7 @@ pub mod laws;
 mod output;
 mod player;
 mod reply;
+mod showing;
 mod status;
 mod stop;
 mod top;
@@ -17,6 +18,8 @@ pub use status::Status;
 pub use top::run;
 
 #[cfg(test)]
-mod check_tests;
+mod test_files;
+#[cfg(test)]
+mod test_runs;
 #[cfg(test)]
 mod tests;

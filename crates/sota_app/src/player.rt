@@ -4,7 +4,7 @@ ghost use Rattle.std.specs.Prelude.{false, IfOk, OnErr, Some};
 ghost use Rattle.sota_units.specs.Limits.{TEXT_LIMIT};
 ghost use Rattle.sota_units.specs.Memory.{AnswersBy};
 ghost use Rattle.sota_script.specs.Few.{HasFewPairs};
-ghost use Rattle.sota_script.specs.declared.command.Command.TheVariants.{Edit, Close};
+ghost use Rattle.sota_script.specs.declared.command.Command.TheVariants.{Edit, Close, Route};
 ghost use Rattle.sota_app.specs.Outputs.{Ends};
 ghost use Rattle.sota_app.specs.Replies.{is_shortage, outputs_of, lines_status, replies_status};
 ghost use Rattle.sota_app.specs.Script.{session_ask, command_result, result_step, step};
@@ -14,13 +14,14 @@ ghost use Rattle.sota_app.specs.declared.reply.Reply.TheVariants.{Refused};
 
 use crate::inputs::Script;
 use crate::output::make_reply;
-use crate::reply::{NamedFile, Refusal, Reply};
+use crate::reply::{Bracket, NamedFile, Refusal, Reply};
 use crate::status::Status;
 use crate::stop::Stop;
 use sota_edge::{Desk, Sink};
 use sota_hist::Histogram;
 use sota_network::Network;
 use sota_polfile::write_policy;
+use sota_route::route_bracket;
 use sota_script::{Ask3, Command, read_line};
 use sota_session::{Ask, AskFault, Session};
 use sota_text::Lines;
@@ -40,7 +41,7 @@ struct Player<'s, 'd, 'o, 'm, 'p, D: Desk, O: Sink, M: Ledger, P: Ledger> {
 }
 
 /// The ask of these numbers.
-fn session_ask(ask: Ask3) -> Ask
+pub fn session_ask(ask: Ask3) -> Ask
     ensures { result ≡ session_ask ask }
 {
     Ask {
@@ -51,7 +52,7 @@ fn session_ask(ask: Ask3) -> Ask
 }
 
 /// The reply to a refused line of this number. A line for which memory was wanted gets none.
-fn refuse(number: u32, refusal: Refusal) -> Result<Reply, NoMemory>
+pub fn refuse(number: u32, refusal: Refusal) -> Result<Reply, NoMemory>
     ensures { IfOk result (λ reply.
         (is_shortage refusal ≡ false) × (reply ≡ Refused number refusal)) }
 {
@@ -108,6 +109,22 @@ impl<D: Desk, O: Sink, M: Ledger, P: Ledger> Player<'_, '_, '_, '_, '_, D, O, M,
         Ok(Reply::Closed(arc))
     }
 
+    /// Brackets the chance of a route.
+    fn bracket(&self, dest: NodeId, budget: u32, arcs: &[ArcId]) -> Result<Reply, Refusal>
+        ensures { AnswersBy is_shortage
+            (λ reply. record { reply = reply; next = self.now.session.now.network })
+            result (command_result self.now.session.now.network (Route dest budget arcs.now)) }
+    {
+        let network = self.session.network();
+        let answer = route_bracket(self.alloc, network, dest, budget, arcs)?;
+        Ok(Reply::Bracketed(Bracket {
+            dest,
+            budget,
+            answer,
+            arcs: arcs.len() as u64,
+        }))
+    }
+
     /// Does a command. Where it is refused the network stays as it is.
     fn perform(&mut self, command: Command) -> Result<Reply, Refusal>
         requires { HasFewPairs command }
@@ -138,6 +155,9 @@ impl<D: Desk, O: Sink, M: Ledger, P: Ledger> Player<'_, '_, '_, '_, '_, D, O, M,
                     name,
                     bytes: Items::new(bytes),
                 }))
+            }
+            Command::Route { dest, budget, arcs } => {
+                self.bracket(NodeId(dest), budget, arcs.as_slice())
             }
         }
     }

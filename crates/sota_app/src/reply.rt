@@ -2,14 +2,15 @@
 ghost use Rattle.std.specs.Prelude.{◌≡◌, ◌++◌, IfOk, OnOk, option_map};
 ghost use Rattle.sota_app.specs.Replies.{is_shortage, refusal_word, refusal_count};
 ghost use Rattle.sota_app.specs.Replies.{arc_text, count_text, answer_line, edited_line};
-ghost use Rattle.sota_app.specs.Replies.{closed_line, stored_line, refused_line, reply_line};
-ghost use Rattle.sota_app.specs.Replies.{reply_file, is_refusal};
+ghost use Rattle.sota_app.specs.Replies.{closed_line, stored_line, bracket_line, refused_line};
+ghost use Rattle.sota_app.specs.Replies.{reply_line, reply_file, is_refusal};
 
 use sota_hist::HistFault;
+use sota_route::{RouteAnswer, RouteFault};
 use sota_script::{FileName, LineFault};
 use sota_session::{Answer, Ask, AskFault, EditFault};
 use sota_text::TextOut;
-use sota_units::{ArcId, Items, NoMemory, grain_text};
+use sota_units::{ArcId, Items, NoMemory, NodeId, grain_text};
 use std::alloc::Global;
 
 /// A file that is to be stored.
@@ -17,6 +18,15 @@ use std::alloc::Global;
 pub struct NamedFile {
     pub name: FileName,
     pub bytes: Items<u8>,
+}
+
+/// Two bounds of the chance of a route to a destination within a budget, and its number of arcs.
+#[derive(Clone, Copy, Debug, PartialEq, Eq)]
+pub struct Bracket {
+    pub dest: NodeId,
+    pub budget: u32,
+    pub answer: RouteAnswer,
+    pub arcs: u64,
 }
 
 /// The reply to a line.
@@ -30,6 +40,8 @@ pub enum Reply {
     Closed(ArcId),
     /// This file was stored.
     Stored(NamedFile),
+    /// The chance of a route was bracketed.
+    Bracketed(Bracket),
     /// The line of this number was refused.
     Refused(u32, Refusal),
 }
@@ -45,6 +57,8 @@ pub enum Refusal {
     Edit(EditFault),
     /// The ask has this fault.
     Ask(AskFault),
+    /// The route has this fault.
+    Route(RouteFault),
 }
 
 impl From<LineFault> for Refusal {
@@ -87,6 +101,16 @@ impl From<AskFault> for Refusal {
     }
 }
 
+impl From<RouteFault> for Refusal {
+    ghost use Rattle.sota_app.specs.declared.reply.Refusal.TheVariants.{Route as OfRoute};
+
+    ghost from_gives = { λ fault refusal. refusal ≡ OfRoute fault };
+
+    fn from(fault: RouteFault) -> Self {
+        Refusal::Route(fault)
+    }
+}
+
 impl Refusal {
     /// Whether memory was wanted. Such a line is not refused: it gets no reply.
     pub fn is_shortage(&self) -> bool
@@ -98,6 +122,7 @@ impl Refusal {
                 | Refusal::Time(HistFault::NoMemory)
                 | Refusal::Edit(EditFault::NoMemory)
                 | Refusal::Ask(AskFault::NoMemory)
+                | Refusal::Route(RouteFault::NoMemory)
         )
     }
 
@@ -110,15 +135,17 @@ impl Refusal {
             Refusal::Time(fault) => fault.word(),
             Refusal::Edit(fault) => fault.word(),
             Refusal::Ask(fault) => fault.word(),
+            Refusal::Route(fault) => fault.word(),
         }
     }
 
-    /// The count that is written with it, where it is one of the two that have one.
+    /// The count or the place that is written with it, where it is one of those that have one.
     fn count(&self) -> Option<u64>
         ensures { result ≡ refusal_count self.now }
     {
         match self {
             Refusal::Ask(fault) => fault.count(),
+            Refusal::Route(fault) => fault.number(),
             Refusal::Line(_) | Refusal::Time(_) | Refusal::Edit(_) => None,
         }
     }
@@ -146,7 +173,7 @@ fn push_count(text: &mut TextOut, count: Option<u64>) -> Result<(), NoMemory>
 }
 
 /// The line `answer O D T LOWER UPPER ARC`.
-fn write_answer(alloc: Global, ask: &Ask, answer: &Answer) -> Result<TextOut, NoMemory>
+pub fn write_answer(alloc: Global, ask: &Ask, answer: &Answer) -> Result<TextOut, NoMemory>
     ensures { IfOk result (λ text. text ≡ answer_line ask.now answer.now) }
 {
     let mut text = TextOut::new(alloc);
@@ -199,6 +226,25 @@ fn write_stored(alloc: Global, name: &str) -> Result<TextOut, NoMemory>
     Ok(text)
 }
 
+/// The line `route D T LOWER UPPER K`.
+fn write_bracket(alloc: Global, bracket: &Bracket) -> Result<TextOut, NoMemory>
+    ensures { IfOk result (λ text. text ≡ bracket_line bracket.now) }
+{
+    let mut text = TextOut::new(alloc);
+    text.bytes(b"route ")?;
+    text.number(u128::from(bracket.dest.get()))?;
+    text.bytes(b" ")?;
+    text.number(u128::from(bracket.budget))?;
+    text.bytes(b" ")?;
+    text.bytes(&grain_text(bracket.answer.lower))?;
+    text.bytes(b" ")?;
+    text.bytes(&grain_text(bracket.answer.upper))?;
+    text.bytes(b" ")?;
+    text.number(u128::from(bracket.arcs))?;
+    text.bytes(b"\n")?;
+    Ok(text)
+}
+
 /// The line `refused LINE CAUSE`, with the count of a cause that has one.
 fn write_refused(alloc: Global, line: u32, refusal: &Refusal) -> Result<TextOut, NoMemory>
     ensures { IfOk result (λ text. text ≡ refused_line line refusal.now) }
@@ -223,6 +269,7 @@ impl Reply {
             Reply::Edited(arc) => write_edited(alloc, *arc),
             Reply::Closed(arc) => write_closed(alloc, *arc),
             Reply::Stored(file) => write_stored(alloc, file.name.as_str()),
+            Reply::Bracketed(bracket) => write_bracket(alloc, bracket),
             Reply::Refused(line, refusal) => write_refused(alloc, *line, refusal),
         }
     }
@@ -234,7 +281,7 @@ impl Reply {
         match self {
             Reply::Stored(file) => Some(file),
             Reply::Answered(_, _) | Reply::Edited(_) | Reply::Closed(_) => None,
-            Reply::Refused(_, _) => None,
+            Reply::Bracketed(_) | Reply::Refused(_, _) => None,
         }
     }
 

@@ -7,15 +7,21 @@ ghost use Rattle.sota_polfile.specs.Table.{Table};
 ghost use Rattle.sota_app.specs.Outputs.{Ends, LineEnds};
 ghost use Rattle.sota_app.specs.Words.{request_of};
 ghost use Rattle.sota_app.specs.Inputs.{NoInputWritten, IsShortJob, job_of};
+ghost use Rattle.sota_app.specs.Inputs.{IsWorked, JobHolds};
+ghost use Rattle.sota_app.specs.Outcome as outcomes;
 ghost use Rattle.sota_app.specs.Outcome.{outcome, refused_words, job_outcome};
 ghost use Rattle.sota_app.specs.Causes.{Ended, Delivered, NoFault, status_of};
 ghost use Rattle.sota_app.specs.Meaning.{AskLine, IsAnswered, Meant, IsJudged, Attested};
+ghost use Rattle.sota_app.specs.Meaning.{IsReplayed, Replayed, IsJob, IsShown, Shown};
+ghost use Rattle.sota_script.specs.declared.command.Ask3.{Ask3};
+ghost use Rattle.sota_app.specs.declared.words.Trips.{Trips};
 
-use crate::checking::check_policy;
+use crate::checking::{check_policy, replay_policy};
 use crate::input::NoInput;
 use crate::inputs::{Job, Task, load_task};
 use crate::output::write_line;
 use crate::player::play_lines;
+use crate::showing::show_plan;
 use crate::status::Status;
 use crate::stop::Stop;
 use crate::words::read_words;
@@ -24,6 +30,7 @@ use sota_dimacs::laws::texts_mean_graphs;
 use sota_edge::{Desk, Sink, put_all};
 use sota_hist::laws::built_times;
 use sota_histcsv::laws::texts_mean_networks;
+use sota_make::laws::made_networks;
 use sota_network::Network;
 use sota_network::laws::{edits_keep_networks, grid_encloses};
 use sota_units::Steps;
@@ -70,6 +77,7 @@ fn do_job<D: Desk, O: Sink, P: Ledger>(
         (D.state desk.old) (D.state desk.new) (O.state out.old) (O.state out.new) }
     ensures status { IfOk result (λ status.
         status ≡ (job_outcome network (job_of job)).status) }
+    ensures holds { IfOk result (λ _. JobHolds network (job_of job)) }
 {
     match job {
         Job::Play(script) => {
@@ -77,6 +85,11 @@ fn do_job<D: Desk, O: Sink, P: Ledger>(
             play_lines::<D, O, Brand, P>(alloc, network, &script, desk, out, blank, pushes)
         }
         Job::Judge(table) => check_policy(alloc, &network, &table, out),
+        Job::Replay(table, trips) => replay_policy(alloc, &network, &table, trips, out),
+        Job::Show(ask) => {
+            let blank = Blank::new(1);
+            show_plan::<O, Brand, P>(alloc, network, ask, out, blank, pushes)
+        }
     }
 }
 
@@ -88,8 +101,12 @@ fn serve<D: Desk, O: Sink, P: Ledger>(
     out: &mut O,
     pushes: &mut Steps<P>,
 ) -> Result<Status, Stop>
-    ensures { Ended (status_of result) (request_of (map string_bytes words.now))
+    ensures ended { Ended (status_of result) (request_of (map string_bytes words.now))
         (D.state desk.old) (D.state desk.new) (O.state out.old) (O.state out.new) }
+    ensures holds { (files : Files) (net : Net) (job : outcomes.Job)
+        → (D.state desk.old).holds ≡ Some files
+        → IsJob (map string_bytes words.now) files net job
+        → IfOk result (λ status. IsWorked status → JobHolds net job) }
 {
     let Some(request) = read_words(words) else {
         return refuse_words(out);
@@ -136,6 +153,20 @@ pub fn run<D: Desk, O: Sink, P: Ledger>(
         → (D.state desk.old).holds ≡ Some files → result ≡ Status.Done
         → IsJudged (map string_bytes words.now) files net table
         → Attested net table (O.state out.old) (O.state out.new) }
+
+    // And where trips were to follow a policy and all is done, it holds, and each of the trips by
+    // the words of the seed was counted once.
+    ensures replayed { (files : Files) (net : Net) (table : Table) (trips : Trips)
+        → (D.state desk.old).holds ≡ Some files → result ≡ Status.Done
+        → IsReplayed (map string_bytes words.now) files net table trips
+        → Replayed net table trips (O.state out.old) (O.state out.new) }
+
+    // And where the plan of a network that is made is to be shown, its policy is always accepted,
+    // with the lower bound of the answer.
+    ensures shown { (files : Files) (net : Net) (ask : Ask3) → (D.state desk.old).holds ≡ Some files
+        → NoFault (D.state desk.old) (D.state desk.new) (O.state out.old) (O.state out.new)
+        → result ≢ Status.NoMemory → IsShown (map string_bytes words.now) files net ask
+        → Shown net ask result (O.state out.old) (O.state out.new) }
 {
     texts_mean_graphs();
     texts_mean_networks();
@@ -144,6 +175,7 @@ pub fn run<D: Desk, O: Sink, P: Ledger>(
     grid_encloses();
     passed_policies_hold();
     certified_attains();
+    made_networks();
     match serve(alloc, words, desk, out, pushes) {
         Ok(status) => status,
         Err(Stop::PutFailed | Stop::StoreFailed) => Status::WriteFault,

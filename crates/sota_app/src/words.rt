@@ -1,12 +1,19 @@
 // The words of the command line.
-ghost use Rattle.std.specs.Prelude.{◌≡◌, map, string_bytes, option_map};
-ghost use Rattle.sota_app.specs.Words.{ask_of, ask_request, run_request, check_request};
-ghost use Rattle.sota_app.specs.Words.{request_of, five};
+ghost use Rattle.std.specs.Prelude.{◌≡◌, true, map, string_bytes, option_map, IfSome};
+ghost use Rattle.sota_make.specs.Made.{is_size};
+ghost use Rattle.sota_app.specs.Words.{ask_of, ask_request, file_request};
+ghost use Rattle.sota_app.specs.Words.{trips_of, replay_request, make_of, make_request};
+ghost use Rattle.sota_app.specs.Words.{request_of, five, IsSized};
+ghost use Rattle.sota_app.specs.Shown.{ask_made};
 ghost use Rattle.sota_text.specs.Words.{three};
 
+use sota_make::is_size;
 use sota_script::Ask3;
 use sota_text::read_u32;
 use std::marker::Model;
+
+/// The most trips of a request.
+const TRIP_LIMIT: u32 = 1_000_000;
 
 /// The words `ask GRAPH HISTS O D T`: the names of the graph and of the histograms, and the ask.
 #[derive(Drop)]
@@ -28,45 +35,61 @@ impl<'a> Model for AskWords<'a> {
     } };
 }
 
-/// The words `run GRAPH HISTS SCRIPT`: the names of the graph, of the histograms and of the script.
+/// The words `GRAPH HISTS FILE`: the names of the graph, of the histograms and of a file.
 #[derive(Drop)]
-pub struct RunWords<'a> {
+pub struct FileWords<'a> {
     pub graph: &'a str,
     pub hists: &'a str,
-    pub script: &'a str,
+    pub file: &'a str,
 }
 
-impl<'a> Model for RunWords<'a> {
-    ghost use Rattle.sota_app.specs.Requests.{RunRequest};
+impl<'a> Model for FileWords<'a> {
+    ghost use Rattle.sota_app.specs.Requests.{FileRequest};
 
-    ghost Value = { RunRequest };
+    ghost Value = { FileRequest };
 
     ghost view = { λ words. record {
       graph = words.graph.now;
       hists = words.hists.now;
-      script = words.script.now;
+      file = words.file.now;
     } };
 }
 
-/// The words `check GRAPH HISTS POLICY`: the names of the graph, of the histograms and of the
-/// policy.
+/// So many trips, by the words of a seed.
+#[derive(Clone, Copy, Debug, PartialEq, Eq)]
+pub struct Trips {
+    pub count: u32,
+    pub seed: u32,
+}
+
+/// The words `replay GRAPH HISTS POLICY TRIPS SEED`.
 #[derive(Drop)]
-pub struct CheckWords<'a> {
-    pub graph: &'a str,
-    pub hists: &'a str,
-    pub policy: &'a str,
+pub struct ReplayWords<'a> {
+    pub names: FileWords<'a>,
+    pub trips: Trips,
 }
 
-impl<'a> Model for CheckWords<'a> {
-    ghost use Rattle.sota_app.specs.Requests.{CheckRequest};
+/// The words `make SEED NODES ARCS SPAN T`: the numbers of a network, and a budget.
+#[derive(Clone, Copy, Debug, PartialEq, Eq)]
+pub struct MakeWords {
+    pub seed: u32,
+    pub nodes: u32,
+    pub arcs: u32,
+    pub span: u32,
+    pub budget: u32,
+}
 
-    ghost Value = { CheckRequest };
-
-    ghost view = { λ words. record {
-      graph = words.graph.now;
-      hists = words.hists.now;
-      policy = words.policy.now;
-    } };
+impl MakeWords {
+    /// The ask from the first node to the last one.
+    pub fn ask(&self) -> Ask3
+        ensures { result ≡ ask_made self.now }
+    {
+        Ask3 {
+            origin: 1,
+            dest: self.nodes,
+            budget: self.budget,
+        }
+    }
 }
 
 /// What the words ask for.
@@ -75,22 +98,31 @@ pub enum Request<'a> {
     /// One ask.
     Ask(AskWords<'a>),
     /// Every line of a script in order.
-    Run(RunWords<'a>),
+    Run(FileWords<'a>),
     /// Whether a policy holds.
-    Check(CheckWords<'a>),
+    Check(FileWords<'a>),
+    /// How trips end that follow a policy.
+    Replay(ReplayWords<'a>),
+    /// The plan of a network that is made.
+    Make(MakeWords),
 }
 
 /// The request of the words after the program's name. None exactly where they are no request.
 pub fn read_words(words: &[String]) -> Option<Request<'_>>
-    ensures { result ≡ request_of (map string_bytes words.now) }
+    ensures request { result ≡ request_of (map string_bytes words.now) }
+    ensures sized { IfSome result IsSized }
 {
     let (first, rest) = words.split_first()?;
     if first.as_str() == "ask" {
         Some(Request::Ask(read_ask_words(rest)?))
     } else if first.as_str() == "run" {
-        Some(Request::Run(read_run_words(rest)?))
+        Some(Request::Run(read_file_words(rest)?))
     } else if first.as_str() == "check" {
-        Some(Request::Check(read_check_words(rest)?))
+        Some(Request::Check(read_file_words(rest)?))
+    } else if first.as_str() == "replay" {
+        Some(Request::Replay(read_replay_words(rest)?))
+    } else if first.as_str() == "make" {
+        Some(Request::Make(read_make_words(rest)?))
     } else {
         None
     }
@@ -105,27 +137,23 @@ fn read_ask_words(words: &[String]) -> Option<AskWords<'_>>
     Some(AskWords { graph, hists, ask })
 }
 
-/// The words `GRAPH HISTS SCRIPT`.
-fn read_run_words(words: &[String]) -> Option<RunWords<'_>>
-    ensures { result ≡ run_request (map string_bytes words.now) }
+/// The words `GRAPH HISTS FILE`.
+fn read_file_words(words: &[String]) -> Option<FileWords<'_>>
+    ensures { result ≡ file_request (map string_bytes words.now) }
 {
-    let (graph, hists, script) = three_words(words)?;
-    Some(RunWords {
-        graph,
-        hists,
-        script,
-    })
+    let (graph, hists, file) = three_words(words)?;
+    Some(FileWords { graph, hists, file })
 }
 
-/// The words `GRAPH HISTS POLICY`.
-fn read_check_words(words: &[String]) -> Option<CheckWords<'_>>
-    ensures { result ≡ check_request (map string_bytes words.now) }
+/// The words `GRAPH HISTS POLICY TRIPS SEED`.
+fn read_replay_words(words: &[String]) -> Option<ReplayWords<'_>>
+    ensures { result ≡ replay_request (map string_bytes words.now) }
 {
-    let (graph, hists, policy) = three_words(words)?;
-    Some(CheckWords {
-        graph,
-        hists,
-        policy,
+    let (graph, hists, file, count, seed) = five_words(words)?;
+    let trips = read_trips(count, seed)?;
+    Some(ReplayWords {
+        names: FileWords { graph, hists, file },
+        trips,
     })
 }
 
@@ -137,9 +165,9 @@ fn five_words(words: &[String]) -> Option<(&str, &str, &str, &str, &str)>
     if words.len() != 5 {
         return None;
     }
-    let (graph, hists) = (words[0].as_str(), words[1].as_str());
-    let (origin, dest, budget) = (words[2].as_str(), words[3].as_str(), words[4].as_str());
-    Some((graph, hists, origin, dest, budget))
+    let (first, second) = (words[0].as_str(), words[1].as_str());
+    let (third, fourth, fifth) = (words[2].as_str(), words[3].as_str(), words[4].as_str());
+    Some((first, second, third, fourth, fifth))
 }
 
 /// The words, if they are three.
@@ -160,6 +188,44 @@ fn read_ask(origin: &str, dest: &str, budget: &str) -> Option<Ask3>
     Some(Ask3 {
         origin: read_u32(origin.as_bytes())?,
         dest: read_u32(dest.as_bytes())?,
+        budget: read_u32(budget.as_bytes())?,
+    })
+}
+
+/// The words `TRIPS SEED`. None where there are too many trips.
+fn read_trips(count: &str, seed: &str) -> Option<Trips>
+    ensures { result ≡ trips_of count.now seed.now }
+{
+    let count = read_u32(count.as_bytes())?;
+    if count > TRIP_LIMIT {
+        return None;
+    }
+    let seed = read_u32(seed.as_bytes())?;
+    Some(Trips { count, seed })
+}
+
+/// The words `SEED NODES ARCS SPAN T`. None where no network is made of such numbers.
+fn read_make_words(words: &[String]) -> Option<MakeWords>
+    ensures request { result ≡ make_request (map string_bytes words.now) }
+    ensures sized { IfSome result (λ make. is_size make.nodes make.arcs make.span ≡ true) }
+{
+    let (seed, nodes, arcs, span, budget) = five_words(words)?;
+    let make = read_make(seed, nodes, arcs, span, budget)?;
+    if !is_size(make.nodes, make.arcs, make.span) {
+        return None;
+    }
+    Some(make)
+}
+
+/// Five numbers.
+fn read_make(seed: &str, nodes: &str, arcs: &str, span: &str, budget: &str) -> Option<MakeWords>
+    ensures { result ≡ make_of seed.now nodes.now arcs.now span.now budget.now }
+{
+    Some(MakeWords {
+        seed: read_u32(seed.as_bytes())?,
+        nodes: read_u32(nodes.as_bytes())?,
+        arcs: read_u32(arcs.as_bytes())?,
+        span: read_u32(span.as_bytes())?,
         budget: read_u32(budget.as_bytes())?,
     })
 }

@@ -7,6 +7,7 @@ pub mod Folding
 pub mod Halves
 pub mod Limits
 pub mod Meetings
-pub mod Partners
-pub mod Sums
 pub mod PairSums
+pub mod Partners
+pub mod Stretch
+pub mod Sums

@@ -4,13 +4,7 @@ use Rattle.std.proofs.lemmas.List.Sums.{sum_by_more, sum_by-take-le}
 use Rattle.std.proofs.Math.Nat.{mul-le-mul_left, mul-le-mul_right}
 use Rattle.sota_units.specs.Rounding.{SCALE_LIMIT}
 use Rattle.sota_block.specs.Pairs.{pairs_sum, pairs_mass}
-
--- a mass times a value is the mass times the value's halves
-halves : (m v : ℕ) → m * (v % 4294967296) + 4294967296 * (m * (v / 4294967296)) ≡ m * v
-halves m v =
-    let split : v % 4294967296 + 4294967296 * (v / 4294967296) ≡ v = omega arith in
-    let joined : m * (v % 4294967296 + 4294967296 * (v / 4294967296)) ≡ m * v = ap (λ (x : ℕ). m * x) split in
-    omega arith
+use Rattle.sota_block.proofs.Crossings.{halves}
 
 -- a half is below 2 ^ 32
 low-le : (m v : ℕ) → m * (v % 4294967296) ≤ m * 4294967295

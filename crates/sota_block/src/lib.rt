@@ -13,6 +13,7 @@ mod plain;
 mod tests;
 mod wide;
 
+pub use dense::crossed_sums;
 pub use eights::add_block;
 pub use fold::{fold_products, product_fold, scratch_len};
 pub use laws::{first_fold_counts, worked_coefficients};

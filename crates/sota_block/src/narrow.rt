@@ -4,7 +4,7 @@ ghost use Rattle.std.specs.Prelude.{IsTrue, slice_index};
 ghost use Rattle.sota_units.specs.Rounding.{SCALE_LIMIT};
 ghost use Rattle.sota_block.specs.Product.{coefficient};
 
-use crate::eights::add_block;
+use crate::eights::eight_sums;
 
 /// Whether each value fits 64 bits.
 pub(crate) fn are_narrow(values: &[u128]) -> bool
@@ -29,16 +29,13 @@ pub(crate) fn multiply_narrow(kernel: &[u64], values: &[u128], into: &mut [u128]
         ≡ coefficient kernel.now values.now k) }
 {
     let mut masses = [0u32; 32];
-    let mut narrow = [0u64; 32];
     let mut padded = [0u64; 48];
-    let mut low = [0u64; 64];
-    let mut high = [0u64; 64];
     narrow_masses(kernel, &mut masses);
-    narrow_values(values, &mut narrow);
-    clear(&mut low);
-    clear(&mut high);
-    add_block(&masses, &narrow, &mut padded, &mut low, &mut high);
-    join(&low, &high, into);
+    pad_narrow(values, &mut padded);
+    for part in 0..8 {
+        let at = part * 8;
+        eight_sums(&masses, &padded, at, &mut into[at..at + 8]);
+    }
 }
 
 fn narrow_masses(masses: &[u64], into: &mut [u32])
@@ -51,31 +48,18 @@ fn narrow_masses(masses: &[u64], into: &mut [u32])
     }
 }
 
-fn narrow_values(values: &[u128], into: &mut [u64])
-    requires length { length into.old ≡ length values.now }
+// The values between eight zeros before them and eight after them, where all was zeros.
+fn pad_narrow(values: &[u128], padded: &mut [u64])
+    requires short { length values.now ≤ 65536 }
     requires small { (k : ℕ) → slice_index values.now k < 2 ^ 64 }
-    ensures { into.new ≡ values.now }
+    requires room { length padded.old ≡ length values.now + 16 }
+    requires zeros { (i : ℕ) → slice_index padded.old i ≡ 0 }
+    ensures before { (i : ℕ) → i < 8 → slice_index padded.new i ≡ 0 }
+    ensures inside { (a : ℕ) → a < length values.now
+        → slice_index padded.new (8 + a) ≡ slice_index values.now a }
+    ensures after { (i : ℕ) → i < 8 → slice_index padded.new (length values.now + 8 + i) ≡ 0 }
 {
     for i in 0..values.len() {
-        into[i] = values[i] as u64;
-    }
-}
-
-fn clear(row: &mut [u64])
-    ensures { (k : ℕ) → k < length row.old → slice_index row.new k ≡ 0 }
-{
-    for place in row.iter_mut() {
-        *place = 0;
-    }
-}
-
-fn join(low: &[u64], high: &[u64], into: &mut [u128])
-    requires low_length { length low.now ≡ length into.old }
-    requires high_length { length high.now ≡ length into.old }
-    ensures { (k : ℕ) → k < length into.old → slice_index into.new k
-        ≡ slice_index low.now k + 4294967296 * slice_index high.now k }
-{
-    for k in 0..into.len() {
-        into[k] = u128::from(high[k]) * 4_294_967_296 + u128::from(low[k]);
+        padded[8 + i] = values[i] as u64;
     }
 }

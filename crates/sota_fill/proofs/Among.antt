@@ -1,7 +1,7 @@
 -- The greatest worth among numbered arcs, number by number.
-use Rattle.std.proofs.Common.{ℕ, zero, suc, ◌≡◌, ◌+◌, ◌-◌, ◌<◌, ◌≤◌, length, get_or, take, ◌==◌, ◌&&◌, max, nat_lt, Bool, true, false, List, [], ◌∷◌, ◌++◌, Option, None, Some, slice_get, take_all, refl, sym, ◌∙◌, ap, subst, arith, ⊎_elim, if◌then◌else◌}
-use Rattle.std.proofs.lemmas.Bool.{eq-eqb, ne_eqb, eqb-true, cases_eq, cases_lt, cases_Bool, and_from, and_left, and_right, lt-ltb, le-ltb}
-use Rattle.sota_network.specs.Network.{Net, IsNet, IsArc, arc_at}
+use Rattle.std.proofs.Common.{ℕ, suc, ◌≡◌, ◌+◌, ◌<◌, ◌≤◌, length, get_or, take, ◌==◌, ◌&&◌, max, nat_lt, true, List, [], ◌∷◌, ◌++◌, Option, None, Some, slice_get, take_all, refl, sym, ◌∙◌, ap, subst, arith, ⊎_elim, if◌then◌else◌}
+use Rattle.std.proofs.lemmas.Bool.{eq-eqb, ne_eqb, eqb-true, cases_eq, cases_lt, and_from, and_left, and_right, lt-ltb, le-ltb}
+use Rattle.sota_network.specs.Network.{Net, arc_at}
 use Rattle.std.proofs.lemmas.List.{take_more}
 use Rattle.std.specs.List.{All}
 use Rattle.std.proofs.lemmas.List.Elements.{All-head, All-tail}

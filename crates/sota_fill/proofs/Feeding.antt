@@ -1,9 +1,8 @@
 -- The sums of a summer that was fed the values at an arc's head are the arc's plain sums.
-use Rattle.std.proofs.Common.{ℕ, zero, suc, ◌≡◌, ◌+◌, ◌-◌, ◌*◌, ◌<◌, ◌≤◌, ◌==◌, Bool, true, false, cond, min, max, List, [], ◌∷◌, length, slice_index, get_or, map, refl, sym, ◌∙◌, ap, arith, ⊎_elim, nat_eq}
-use Rattle.std.specs.List.{range_with_len}
+use Rattle.std.proofs.Common.{ℕ, zero, suc, ◌≡◌, ◌+◌, ◌-◌, ◌*◌, ◌<◌, ◌≤◌, cond, min, List, [], ◌∷◌, length, slice_index, refl, sym, ◌∙◌, ap, arith, ⊎_elim, nat_eq}
 use Rattle.std.proofs.Math.ListN.{get_or-eq_default}
 use Rattle.std.proofs.lemmas.List.FromFn.{get_or-map-range_with_len, length-map-range_with_len}
-use Rattle.std.proofs.lemmas.Bool.{eq-eqb, ne_eqb, cases_eq, cases_lt, le-leb, lt-leb}
+use Rattle.std.proofs.lemmas.Bool.{eq-eqb, ne_eqb, cases_eq, cases_lt}
 use Rattle.sota_block.specs.Product.{sum_below}
 use Rattle.sota_hist.specs.Time.{RisesFrom, IsTime, least_tick, greatest_tick, mass_at}
 use Rattle.sota_network.specs.Grid.{weighed}

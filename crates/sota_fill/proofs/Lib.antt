@@ -1,6 +1,6 @@
 pub mod Among
 pub mod Feeding
+pub mod Halved
 pub mod PairSums
 pub mod Pushing
-pub mod Tiles
 pub mod Summed

@@ -1,6 +1,5 @@
 -- Entries by plain sums over the tables as they were before an extent are the grid's.
-use Rattle.std.proofs.Common.{ℕ, ◌≡◌, ◌≢◌, ◌+◌, ◌-◌, ◌*◌, ◌<◌, ◌≤◌, ◌==◌, max, nat_lt, List, [], ◌∷◌, ◌++◌, length, get_or, Option, None, Some, false, refl, sym, ◌∙◌, ap, subst, arith, ⊎_elim, inl}
-use Rattle.std.specs.List.{All}
+use Rattle.std.proofs.Common.{ℕ, ◌≡◌, ◌≢◌, ◌+◌, ◌-◌, ◌*◌, ◌<◌, ◌≤◌, max, List, ◌++◌, length, get_or, Option, None, Some, false, refl, sym, ◌∙◌, ap, subst, arith, ⊎_elim, inl, if◌then◌else◌, nat_lt, ◌==◌}
 use Rattle.std.proofs.Math.ListN.{get_or-eq_default}
 use Rattle.std.proofs.Math.Nat.{mul-le-mul_right}
 use Rattle.std.proofs.lemmas.List.{length-append, get_or_append_left, get_or-append_right}
@@ -8,14 +7,14 @@ use Rattle.std.proofs.lemmas.Bool.{cases_lt, cases_eq, eq-eqb, ne_eqb, lt-ltb, l
 use Rattle.sota_units.specs.Rounding.{ONE, floor_by, ceiling_by}
 use Rattle.sota_hist.specs.Time.{total, is_closed, least_tick}
 use Rattle.sota_network.specs.Network.{Net, IsNet, IsNode, IsArc, arc_at}
-use Rattle.sota_network.specs.Grid.{lo, hi, choice, plain_sum, best_sum, choice_of, weighed}
+use Rattle.sota_network.specs.Grid.{lo, hi, choice, plain_sum, best_sum, choice_of}
 use Rattle.sota_network.specs.declared.network.Arc.{Arc}
 use Rattle.sota_kept.specs.Ticks.{END_LIMIT, least_to}
-use Rattle.sota_kept.specs.NodeTables.{NodeTable, Entry, IsNodeTable, IsReadyAt, AreReady, IsExtent, known_end, lower_of, upper_of, choice_at, lower_in, upper_in, entry_from}
+use Rattle.sota_kept.specs.NodeTables.{NodeTable, IsReadyAt, AreReady, IsExtent, known_end, lower_of, upper_of, lower_in, upper_in, entry_from}
 use Rattle.sota_kept.specs.Asks.{IsGridEntry}
 use Rattle.sota_tables.specs.Views.{TablesView, OnlyAt, table_at, room_of, longer_table}
 use Rattle.sota_fill.specs.Laws.{Fillable}
-use Rattle.sota_fill.specs.Fills.{IsLonger, IsUnfilled, ReadsAs, ReadsGrid}
+use Rattle.sota_fill.specs.Fills.{IsLonger, IsUnfilled, ReadsGrid}
 use Rattle.sota_fill.proofs.Among.{best-bound}
 use Rattle.sota_fill.proofs.PairSums.{weighed-bound}
 
@@ -23,35 +22,26 @@ use Rattle.sota_fill.proofs.PairSums.{weighed-bound}
 past-end : (xs : List ℕ) (k : ℕ) → length xs ≤ k → get_or xs k 0 ≡ 0
 past-end xs k h = get_or-eq_default xs 0 h
 
-pub lower-le : (net : Net) → Fillable net → (dest i : ℕ) (s : NodeTable) → IsReadyAt net dest i s → (u : ℕ) → lower_of s u ≤ ONE
-lower-le net laws dest i s is u =
+row-le : (row : List ℕ) (front base : ℕ) (f : ℕ → ℕ) → length row ≡ front - base → ((u : ℕ) → base ≤ u → u < front → (if nat_lt u base then 0 else get_or row (u - base) 0) ≡ f u) → ((u : ℕ) → f u ≤ ONE) → (u : ℕ)
+    → (if nat_lt u base then 0 else get_or row (u - base) 0) ≤ ONE
+row-le row front base f long is most u =
     ⊎_elim
-    (λ (low : u < s.base). rw (lt-ltb u s.base low) (omega arith))
-    (λ (high : s.base ≤ u).
+    (λ (low : u < base). rw (lt-ltb u base low) (omega arith))
+    (λ (high : base ≤ u).
     ⊎_elim
-    (λ (old : u < s.front).
-    let value : lower_of s u ≡ lo net dest i u = is.settled.kept.lower u high old in
-    omega (arith, value, laws.order dest i u, laws.whole dest i u))
-    (λ (late : s.front ≤ u).
-    let none : get_or s.lower (u - s.base) 0 ≡ 0 = past-end s.lower (u - s.base) (omega (arith, is.settled.kept.shape.lower)) in
-    rw (le-ltb u s.base high) (omega (arith, none)))
-    (cases_lt u s.front))
-    (cases_lt u s.base)
+    (λ (old : u < front). omega (arith, is u high old, most u))
+    (λ (late : front ≤ u).
+    let none : get_or row (u - base) 0 ≡ 0 = past-end row (u - base) (omega (arith, long)) in
+    rw (le-ltb u base high) (omega (arith, none)))
+    (cases_lt u front))
+    (cases_lt u base)
 
-pub upper-le : (net : Net) → Fillable net → (dest i : ℕ) (s : NodeTable) → IsReadyAt net dest i s → (u : ℕ) → upper_of s u ≤ ONE
-upper-le net laws dest i s is u =
+in-le : (dest j v : ℕ) → (j ≢ dest → v ≤ ONE) → (if j == dest then ONE else v) ≤ ONE
+in-le dest j v most =
     ⊎_elim
-    (λ (low : u < s.base). rw (lt-ltb u s.base low) (omega arith))
-    (λ (high : s.base ≤ u).
-    ⊎_elim
-    (λ (old : u < s.front).
-    let value : upper_of s u ≡ hi net dest i u = is.settled.kept.upper u high old in
-    omega (arith, value, laws.whole dest i u))
-    (λ (late : s.front ≤ u).
-    let none : get_or s.upper (u - s.base) 0 ≡ 0 = past-end s.upper (u - s.base) (omega (arith, is.settled.kept.shape.upper)) in
-    rw (le-ltb u s.base high) (omega (arith, none)))
-    (cases_lt u s.front))
-    (cases_lt u s.base)
+    (λ (at : j ≡ dest). rw (eq-eqb j dest at) (omega arith))
+    (λ (off : j ≡ dest → ⊥). rw (ne_eqb j dest off) (most off))
+    (cases_eq j dest)
 
 -- a table of values of at most one has no sum above the scale
 sum-le : (net : Net) → IsNet net → (f : ℕ → ℕ → ℕ) → ((j u : ℕ) → IsNode net j → f j u ≤ ONE) → (i t : ℕ) → best_sum net f i t ≤ net.scale * ONE
@@ -65,25 +55,19 @@ sum-le net valid f bound i t =
     omega (arith, most, whole))
 
 module _ (net : Net) (laws : Fillable net) (dest : ℕ) (tables : ℕ → NodeTable) (ready : AreReady net dest tables) where
-  lower-in_le : (j u : ℕ) → IsNode net j → lower_in dest tables j u ≤ ONE
-  lower-in_le j u node =
-      ⊎_elim
-      (λ (at : j ≡ dest). rw (eq-eqb j dest at) (omega arith))
-      (λ (off : j ≡ dest → ⊥). rw (ne_eqb j dest off) (lower-le net laws dest j (tables j) (ready j node off) u))
-      (cases_eq j dest)
-
-  upper-in_le : (j u : ℕ) → IsNode net j → upper_in dest tables j u ≤ ONE
-  upper-in_le j u node =
-      ⊎_elim
-      (λ (at : j ≡ dest). rw (eq-eqb j dest at) (omega arith))
-      (λ (off : j ≡ dest → ⊥). rw (ne_eqb j dest off) (upper-le net laws dest j (tables j) (ready j node off) u))
-      (cases_eq j dest)
-
   pub best-lower_le : (i t : ℕ) → best_sum net (lower_in dest tables) i t ≤ net.scale * ONE
-  best-lower_le i t = sum-le net laws.valid (lower_in dest tables) lower-in_le i t
+  best-lower_le i t =
+      sum-le net laws.valid (lower_in dest tables)
+      (λ j u node. in-le dest j (lower_of (tables j) u)
+      (λ off. let kept = (ready j node off).settled.kept in row-le (tables j).lower (tables j).front (tables j).base (lo net dest j) kept.shape.lower kept.lower (λ u. omega (arith, laws.order dest j u, laws.whole dest j u)) u))
+      i t
 
   pub best-upper_le : (i t : ℕ) → best_sum net (upper_in dest tables) i t ≤ net.scale * ONE
-  best-upper_le i t = sum-le net laws.valid (upper_in dest tables) upper-in_le i t
+  best-upper_le i t =
+      sum-le net laws.valid (upper_in dest tables)
+      (λ j u node. in-le dest j (upper_of (tables j) u)
+      (λ off. let kept = (ready j node off).settled.kept in row-le (tables j).upper (tables j).front (tables j).base (hi net dest j) kept.shape.upper kept.upper (laws.whole dest j) u))
+      i t
 
   -- ---- what an extent reads is the grid's
   reads-lower : (i to : ℕ) → IsExtent net dest tables i to → (e : ℕ) (arc : Arc) → arc_at net e ≡ Some arc → arc.tail ≡ i → is_closed arc.time ≡ false → (u : ℕ) → u + least_tick arc.time < to
@@ -107,12 +91,17 @@ module _ (net : Net) (laws : Fillable net) (dest : ℕ) (tables : ℕ → NodeTa
 
 -- ---- entries at the known end
 -- what a row has at a budget from the base on, with more values at the known end
-appended : {X : Type 0} (old more : List X) (d : X) (front base end t : ℕ) → length old ≡ front - base → end ≡ max front base → base ≤ t
-    → (t < front → get_or (old ++ more) (t - base) d ≡ get_or old (t - base) d) × (front ≤ t → get_or (old ++ more) (t - base) d ≡ get_or more (t - end) d)
-appended old more d front base end t long at up = (
-  λ early. get_or_append_left old more d (t - base) (omega (arith, long)),
-  λ late. let place : t - base - (front - base) ≡ t - end = omega arith in get_or-append_right old more (front - base) (t - base) d long (omega arith) ∙ ap (λ (k : ℕ). get_or more k d) place,
-)
+row-longer : {X : Type 0} (old more : List X) (d : X) (value : ℕ → X) (front base n t : ℕ) → length old ≡ front - base → base ≤ t → t < max front base + n → (t < front → get_or old (t - base) d ≡ value t)
+    → ((x : ℕ) → x < n → get_or more x d ≡ value (max front base + x)) → get_or (old ++ more) (t - base) d ≡ value t
+row-longer old more d value front base n t long up less kept found =
+    ⊎_elim
+    (λ (early : t < front). get_or_append_left old more d (t - base) (omega (arith, long)) ∙ kept early)
+    (λ (late : front ≤ t).
+    let place : t - base - (front - base) ≡ t - max front base = omega arith in
+    let inside : t - max front base < n = omega arith in
+    let at : max front base + (t - max front base) ≡ t = omega arith in
+    get_or-append_right old more (front - base) (t - base) d long (omega arith) ∙ ap (λ (k : ℕ). get_or more k d) place ∙ found (t - max front base) inside ∙ ap value at)
+    (cases_lt t front)
 
 -- the entries that were found are the grid's
 pub record AreGridEntries (net : Net) (dest i from : ℕ) (ls us : List ℕ) (cs : List (Option ℕ)) : Type 0 where
@@ -126,50 +115,25 @@ ready-longer net dest i s ls us cs is found some room =
     let kept = is.settled.kept in
     let shape = kept.shape in
     let n : ℕ = length ls in
-    let index : (t : ℕ) → s.front ≤ t → s.base ≤ t → t < known_end s + n → (t - known_end s < n) × (known_end s + (t - known_end s) ≡ t) = λ t late up less. (omega arith, omega arith) in
     let early : (t : ℕ) → t < s.base → (lo net dest i t ≡ 0) × (hi net dest i t ≡ 0) = is.settled.empty in
     record {
       settled = record {
-          kept = record {
-              shape = record {
-                  front = room;
-                  base = shape.base;
-                  lower = length-append s.lower ls ∙ omega (arith, shape.lower);
-                  upper = length-append s.upper us ∙ omega (arith, shape.upper, found.upper);
-                  choices = length-append s.choices cs ∙ omega (arith, shape.choices, found.choices);
-                };
-              lower = λ t up less.
-                  let row = appended s.lower ls 0 s.front s.base (known_end s) t shape.lower refl up in
-                  rw (le-ltb t s.base up)
-                  (⊎_elim
-                  (λ (old : t < s.front). row.0 old ∙ (rw (le-ltb t s.base up) at (kept.lower t up old)))
-                  (λ (late : s.front ≤ t).
-                  let at = index t late up less in
-                  row.1 late ∙ (found.entry (t - known_end s) at.0).lower ∙ ap (lo net dest i) at.1)
-                  (cases_lt t s.front));
-              upper = λ t up less.
-                  let row = appended s.upper us 0 s.front s.base (known_end s) t shape.upper refl up in
-                  rw (le-ltb t s.base up)
-                  (⊎_elim
-                  (λ (old : t < s.front). row.0 old ∙ (rw (le-ltb t s.base up) at (kept.upper t up old)))
-                  (λ (late : s.front ≤ t).
-                  let at = index t late up less in
-                  row.1 late ∙ (found.entry (t - known_end s) at.0).upper ∙ ap (hi net dest i) at.1)
-                  (cases_lt t s.front));
-              choice = λ t up less.
-                  let row = appended s.choices cs None s.front s.base (known_end s) t shape.choices refl up in
-                  rw (le-ltb t s.base up)
-                  (⊎_elim
-                  (λ (old : t < s.front). row.0 old ∙ (rw (le-ltb t s.base up) at (kept.choice t up old)))
-                  (λ (late : s.front ≤ t).
-                  let at = index t late up less in
-                  row.1 late ∙ (found.entry (t - known_end s) at.0).choice ∙ ap (choice net dest i) at.1)
-                  (cases_lt t s.front));
-              below = λ t less. early t (omega arith);
-              least = ⊎_elim (λ (low : s.base ≤ least_to net dest i). inl low) (λ (low : s.front ≤ least_to net dest i). inl (let same : s.base ≡ least_to net dest i = is.based low in omega arith)) kept.least;
-            };
-          empty = early;
+        kept = record {
+          shape = record {
+            front = room;
+            base = shape.base;
+            lower = length-append s.lower ls ∙ omega (arith, shape.lower);
+            upper = length-append s.upper us ∙ omega (arith, shape.upper, found.upper);
+            choices = length-append s.choices cs ∙ omega (arith, shape.choices, found.choices);
+          };
+          lower = λ t up less. rw (le-ltb t s.base up) (row-longer s.lower ls 0 (lo net dest i) s.front s.base n t shape.lower up less (λ old. rw (le-ltb t s.base up) at (kept.lower t up old)) (λ x h. (found.entry x h).lower));
+          upper = λ t up less. rw (le-ltb t s.base up) (row-longer s.upper us 0 (hi net dest i) s.front s.base n t shape.upper up less (λ old. rw (le-ltb t s.base up) at (kept.upper t up old)) (λ x h. (found.entry x h).upper));
+          choice = λ t up less. rw (le-ltb t s.base up) (row-longer s.choices cs None (choice net dest i) s.front s.base n t shape.choices up less (λ old. rw (le-ltb t s.base up) at (kept.choice t up old)) (λ x h. (found.entry x h).choice));
+          below = λ t less. early t (omega arith);
+          least = ⊎_elim (λ (low : s.base ≤ least_to net dest i). inl low) (λ (low : s.front ≤ least_to net dest i). inl (let same : s.base ≡ least_to net dest i = is.based low in omega arith)) kept.least;
         };
+        empty = early;
+      };
       based = λ low. is.based (omega arith);
     }
 

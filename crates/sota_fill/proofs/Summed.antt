@@ -1,28 +1,32 @@
 -- The sums of an arc by its summers are those by the tables.
-use Rattle.std.proofs.Common.{ℕ, zero, suc, ◌≡◌, ◌+◌, ◌-◌, ◌<◌, ◌≤◌, false, List, [], ◌∷◌, length, get_or, Option, None, Some, refl, sym, ◌∙◌, ap, subst, arith}
-use Rattle.std.specs.Prelude.{Box}
-use Rattle.std.specs.declared.alloc.Global.{Global}
+use Rattle.std.proofs.Common.{ℕ, ◌≡◌, ◌+◌, ◌-◌, ◌<◌, ◌≤◌, false, List, length, sym, subst, arith, take, ◌++◌}
+use Rattle.std.proofs.lemmas.List.{length-take, length-append}
 use Rattle.sota_hist.specs.Time.{IsTime, is_closed, least_tick}
 use Rattle.sota_network.specs.Grid.{weighed}
 use Rattle.sota_online.specs.Summer.{SummerState}
 use Rattle.sota_fill.specs.declared.broad.Summers.{Summers}
 use Rattle.sota_network.specs.Network.{Net}
-use Rattle.sota_fill.specs.Fed.{IsFed, AllFed, SummersList, unboxed, summers_at}
+use Rattle.sota_network.specs.declared.network.Arc.{Arc}
+use Rattle.sota_kept.specs.Ticks.{least_to}
+use Rattle.sota_kept.specs.NodeTables.{NodeTable}
+use Rattle.sota_sums.specs.declared.bound.Bound.{Bound}
+use Rattle.sota_sums.specs.declared.bound.Bound.TheVariants.{Lower, Upper}
+use Rattle.sota_fill.specs.Bounds.{summer_in, grid_in, value_in}
+use Rattle.sota_fill.specs.Fills.{ReadsAs}
+use Rattle.sota_fill.specs.Fed.{IsFed, AreFed, Reaches, AllFed, SummersList}
 use Rattle.sota_fill.proofs.PairSums.{weighed-same}
 use Rattle.sota_fill.proofs.Feeding.{rises-least}
 
--- a place within a list has no default
-get_or-default : {X : Type 0} (xs : List X) (k : ℕ) (d e : X) → k < length xs → get_or xs k d ≡ get_or xs k e
-get_or-default [] k d e h = absurd (omega arith)
-get_or-default (x ∷ xs) zero d e h = refl
-get_or-default (x ∷ xs) (suc k) d e h = get_or-default xs k d e (omega arith)
+-- ---- by a bound
+pub fed-as : {Z : Type 0} (state : Z → SummerState) (net : Net) (dest : ℕ) (arc : Arc) (to : ℕ) (two : Summers Z) (bound : Bound) → AreFed state net dest arc to two
+    → IsFed (state (summer_in bound two)) arc.time (least_to net dest arc.head) (grid_in bound net dest arc.head) × Reaches (state (summer_in bound two)) arc.time (least_to net dest arc.head) to
+fed-as state net dest arc to two Lower fed = (fed.lower, fed.lower_reach)
+fed-as state net dest arc to two Upper fed = (fed.upper, fed.upper_reach)
 
-pub summers-read : {Z : Type 0} (broad : SummersList Z) (e i : ℕ) (found : Option (Box (Summers Z) Global)) (two : Box (Summers Z) Global) → i ≡ e → i - 1 < length broad
-    → found ≡ get_or broad (i - 1) found → found ≡ Some two → summers_at broad e ≡ Some two.value
-summers-read {Z} broad e i found two same within read is =
-    let there : get_or broad (i - 1) found ≡ get_or broad (i - 1) None = get_or-default broad (i - 1) found None within in
-    let at : found ≡ get_or broad (e - 1) None = read ∙ there ∙ ap (λ (n : ℕ). get_or broad (n - 1) None) same in
-    ap unboxed (sym at ∙ is)
+pub reads-as : (net : Net) (dest : ℕ) (arc : Arc) (to : ℕ) (tables : ℕ → NodeTable) (bound : Bound) → ReadsAs net dest arc to tables → is_closed arc.time ≡ false → (u : ℕ) → u + least_tick arc.time < to
+    → value_in bound dest tables arc.head u ≡ grid_in bound net dest arc.head u
+reads-as net dest arc to tables Lower reads opened u less = reads.lower opened u less
+reads-as net dest arc to tables Upper reads opened u less = reads.upper opened u less
 
 -- values that are equal as far as an arc reads them
 pub sums-agree : (f g : ℕ → ℕ) (from x count : ℕ) (time : List (ℕ × ℕ)) → IsTime time → x < count → ((u : ℕ) → u + least_tick time < from + count → g u ≡ f u)
@@ -40,3 +44,10 @@ pub all-fed-less : {Z : Type 0} (state : Z → SummerState) (net : Net) (dest i 
 all-fed-less {Z} state net dest i to to' broad all less e arc two number tail is =
     let fed = all e arc two number tail is in
     record { open_arc = fed.open_arc; lower = fed.lower; upper = fed.upper; lower_reach = omega (arith, fed.lower_reach); upper_reach = omega (arith, fed.upper_reach) }
+
+-- ---- the first items of an array, of which some were written
+pub take-long : {X : Type 0} (n : ℕ) (xs : List X) → n ≤ length xs → length (take n xs) ≡ n
+take-long n xs within = simp length-take (omega (arith, within))
+
+pub take-written : {X : Type 0} (n : ℕ) (xs rest : List X) → length xs ≡ n → length (take n (xs ++ rest)) ≡ n
+take-written n xs rest long = take-long n (xs ++ rest) (omega (arith, long, length-append xs rest))

@@ -3,12 +3,13 @@ use Rattle.std.specs.Prelude.{ℕ, ◌≡◌, ◌-◌, ◌+◌, ◌<◌, ◌≤�
 use Rattle.std.specs.Prelude.{slice_index_or, Option, None, Some, Box}
 use Rattle.std.specs.declared.alloc.Global.{Global}
 use Rattle.sota_hist.specs.Time.{is_closed, least_tick}
-use Rattle.sota_network.specs.Network.{Net, arc_at}
+use Rattle.sota_network.specs.Network.{Net, IsNode, arc_at}
 use Rattle.sota_network.specs.Grid.{lo, hi}
 use Rattle.sota_network.specs.declared.network.Arc.{Arc}
 use Rattle.sota_online.specs.Summer.{SummerState, kernel_of}
 use Rattle.sota_kept.specs.Ticks.{END_LIMIT, least_to, up_to}
 use Rattle.sota_fill.specs.declared.broad.Summers.{Summers}
+use Rattle.sota_fill.specs.declared.target.Target.{Target}
 
 -- a summer of an arc's time whose values are those of f from a base on, below which f is 0
 pub record IsFed (state : SummerState) (time : List (ℕ × ℕ)) (base : ℕ) (f : ℕ → ℕ) : Type 0 where
@@ -47,7 +48,9 @@ abbrev pub AllFed : {Z : Type 0} → (Z → SummerState) → Net → ℕ → ℕ
 AllFed state net dest i to broad = (e : ℕ) (arc : Arc) (two : _) → arc_at net e ≡ Some arc
     → arc.tail ≡ i → summers_at broad e ≡ Some two → AreFed state net dest arc to two
 
--- a list of the least times to the destination, None where there is none
-abbrev pub AreLeastTimes : Net → ℕ → List (Option ℕ) → Type 0
-AreLeastTimes net dest least = (i : ℕ) → 1 ≤ i → i ≤ net.nodes
-    → up_to END_LIMIT (slice_index_or least (i - 1) None) ≡ least_to net dest i
+-- the least times of the nodes of a network to a destination on it, None where there is none
+pub record IsTarget (target : Target) : Type 0 where
+  pub nodes : length target.least.now ≡ target.network.now.nodes
+  pub times : (i : ℕ) → IsNode target.network.now i
+      → up_to END_LIMIT (slice_index_or target.least.now (i - 1) None)
+      ≡ least_to target.network.now target.dest i

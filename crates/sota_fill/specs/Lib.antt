@@ -1,4 +1,4 @@
+pub mod Bounds
 pub mod Fed
 pub mod Fills
 pub mod Laws
-pub mod Rows

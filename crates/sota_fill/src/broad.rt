@@ -3,9 +3,13 @@ ghost use Rattle.std.specs.Prelude.{ℕ, ◌≡◌, ◌+◌, ◌<◌, ◌≤◌,
 ghost use Rattle.sota_hist.specs.Time.{IsTime, least_tick};
 ghost use Rattle.sota_network.specs.Grid.{weighed};
 ghost use Rattle.sota_kept.specs.Ticks.{END_LIMIT};
-ghost use Rattle.sota_fill.specs.Fed.{IsFed};
+ghost use Rattle.std.specs.Option.{option_copied};
+ghost use Rattle.sota_fill.specs.Bounds.{summer_in};
+ghost use Rattle.sota_fill.specs.Fed.{IsFed, summers_at};
 
 use sota_online::Summer;
+use sota_sums::Bound;
+use sota_units::ArcId;
 
 /// The two summers of a broad arc. One is fed the lower values at its head, the other the upper
 /// ones, both from the least time of the head on.
@@ -15,30 +19,35 @@ pub struct Summers<Z: Summer> {
     pub upper: Z,
 }
 
-/// The sum of an arc at a budget, where the summer was fed the values at its head from a base on,
-/// and these are 0 below it.
-fn broad_sum<Z: Summer>(summer: &Z, least: u32, base: u32, budget: u32) -> u128
-    requires limit { budget < END_LIMIT }
-    requires known { budget < least + base + length (Z.state summer.now).values }
-    ensures { (time : List (ℕ × ℕ)) (f : ℕ → ℕ) → IsTime time → least_tick time ≡ least
-        → IsFed (Z.state summer.now) time base f → result ≡ weighed f budget time }
-{
-    let first = u64::from(least) + u64::from(base);
-    if u64::from(budget) < first {
-        return 0;
+impl<Z: Summer> Summers<Z> {
+    /// That of a bound.
+    pub(crate) fn of(&self, bound: Bound) -> &Z
+        ensures { result.now ≡ summer_in bound self.now }
+    {
+        match bound {
+            Bound::Lower => &self.lower,
+            Bound::Upper => &self.upper,
+        }
     }
-    let position = (u64::from(budget) - first) as u32 + 1;
-    summer.sum(position).get()
 }
 
-/// The same at budgets in a row, from `from` on.
-pub(crate) fn broad_sums<Z: Summer>(
-    summer: &Z,
-    least: u32,
-    base: u32,
-    from: u32,
-    into: &mut [u128],
-)
+/// The summers of an arc, where it has them.
+pub(crate) fn summers_of<'a, Z: Summer>(
+    broad: &'a [Option<Box<Summers<Z>>>],
+    arc: ArcId,
+) -> Option<&'a Summers<Z>>
+    requires { (1 ≤ arc) × (arc ≤ length broad.now) }
+    ensures { option_copied result ≡ summers_at broad.now arc }
+{
+    match &broad[arc.get() as usize - 1] {
+        Some(two) => Some(two),
+        None => None,
+    }
+}
+
+/// The sums of an arc at budgets in a row, from `from` on, where the summer was fed the values at
+/// its head from a base on, and these are 0 below it.
+pub(crate) fn broad_sums<Z: Summer>(summer: &Z, least: u32, base: u32, from: u32, into: &mut [u128])
     requires limit { from + length into.old ≤ END_LIMIT }
     requires known { from + length into.old
         ≤ least + base + length (Z.state summer.now).values }
@@ -47,7 +56,12 @@ pub(crate) fn broad_sums<Z: Summer>(
         → slice_index into.new x ≡ weighed f (from + x) time }
     ensures room { length into.new ≡ length into.old }
 {
-    for place in 0..into.len() {
-        into[place] = broad_sum(summer, least, base, from + place as u32);
+    let from = u64::from(from);
+    let first = u64::from(least) + u64::from(base);
+    let early = first.saturating_sub(from).min(into.len() as u64);
+    into[..early as usize].fill(0);
+    if (early as usize) < into.len() {
+        let position = (from + early - first) as u32 + 1;
+        summer.sums(position, &mut into[early as usize..]);
     }
 }

@@ -5,8 +5,10 @@ mod bests;
 mod broad;
 mod fill;
 pub mod laws;
-mod sums;
+mod part;
+mod target;
 
-pub use bests::base_of;
 pub use broad::Summers;
 pub use fill::fill_extent;
+pub use part::Part;
+pub use target::{Target, base_of};

@@ -6,7 +6,7 @@ pub mod laws;
 mod make;
 mod times;
 
-pub use make::{MakeFault, make_network};
+pub use make::{MakeFault, is_size, make_network};
 
 #[cfg(test)]
 mod tests;

@@ -69,8 +69,9 @@ pub fn make_network(
     Ok(Network::build(alloc, nodes, scale, list)?)
 }
 
-/// Whether the numbers are in their ranges.
-fn is_size(nodes: u32, arcs: u32, span: u32) -> bool
+/// Whether numbers of nodes and arcs and a span are in their ranges, so that a network is made of
+/// them.
+pub fn is_size(nodes: u32, arcs: u32, span: u32) -> bool
     ensures { result ≡ is_size nodes arcs span }
 {
     (2..=NODES).contains(&nodes)

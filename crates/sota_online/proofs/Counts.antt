@@ -1,5 +1,5 @@
 -- How many products the squares of a feed take.
-use Rattle.std.proofs.Common.{◌≡◌, ℕ, zero, suc, ◌+◌, ◌%◌, ◌^◌, ◌<◌, ◌≤◌, sym, ap, ◌∙◌, arith, add-one}
+use Rattle.std.proofs.Common.{◌≡◌, ℕ, zero, suc, ◌+◌, ◌%◌, ◌^◌, ◌<◌, ◌≤◌, ◌⊎◌, ⊎_elim, sym, ap, ◌∙◌, arith, add-one}
 use Rattle.std.proofs.lemmas.Bool.Decides.{nat_tests}
 use Rattle.std.proofs.Math.Nat.{mul-mod_left, pow-suc}
 use Rattle.sota_block.specs.Product.{sum_below, fold_count}
@@ -28,6 +28,10 @@ count_more span first k r size blocks before now new st fits low more = rw add-o
 
 pub count_all : (span k r before now : ℕ) → r ≤ span → now ≤ before + sum_below r (λ q. square_count span k q) → now ≤ before + square_counts span k
 count_all span k r before now within low = omega (arith, sum_below-le r span (λ q. square_count span k q) within)
+
+pub counted_all : (span k r before now : ℕ) → (r ≤ span) ⊎ (now ≡ before) → now ≤ before + sum_below r (λ q. square_count span k q) → now ≤ before + square_counts span k
+counted_all span k r before now some low =
+    ⊎_elim (λ (within : r ≤ span). count_all span k r before now within low) (λ (none : now ≡ before). omega arith) some
 
 -- a longer kernel may take more
 count-le : (span span' k r : ℕ) → span ≤ span' → square_count span k r ≤ square_count span' k r

@@ -1,3 +1,4 @@
+mod Widened
 pub mod Counts
 pub mod Landing
 pub mod Parts

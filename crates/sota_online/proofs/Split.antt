@@ -1,16 +1,10 @@
 -- Values as two halves of 32 bits.
-use Rattle.std.proofs.Common.{◌≡◌, ℕ, ◌+◌, ◌*◌, ◌/◌, ◌%◌, ◌<◌, ◌≤◌, ◌^◌, List, get_or, sum, refl, add-one, ap, arith}
+use Rattle.std.proofs.Common.{◌≡◌, ℕ, ◌+◌, ◌*◌, ◌/◌, ◌%◌, ◌<◌, ◌≤◌, ◌^◌, List, get_or, sum, refl, add-one, arith}
 use Rattle.std.proofs.Math.Nat.{mul-le-mul_left, mul-le-mul_right}
 use Rattle.sota_units.specs.Rounding.{SCALE_LIMIT}
 use Rattle.sota_block.specs.Product.{sum_below}
+use Rattle.sota_block.proofs.Crossings.{halves}
 use Rattle.sota_block.proofs.Sums.{sum_below-list-le}
-
--- a mass times a value is the mass times the value's halves
-pub halves : (m v : ℕ) → m * (v % 4294967296) + 4294967296 * (m * (v / 4294967296)) ≡ m * v
-halves m v =
-    let split : v % 4294967296 + 4294967296 * (v / 4294967296) ≡ v = omega arith in
-    let joined : m * (v % 4294967296 + 4294967296 * (v / 4294967296)) ≡ m * v = ap (λ (x : ℕ). m * x) split in
-    omega arith
 
 -- a half is below 2 ^ 32
 pub low-le : (m v : ℕ) → m * (v % 4294967296) ≤ m * 4294967295

@@ -3,7 +3,7 @@ use Rattle.std.specs.Prelude.{ℕ, zero, suc, ◌+◌, ◌-◌, ◌*◌, ◌/◌
 use Rattle.std.specs.Prelude.{◌≡◌, nat_le, nat_lt, if◌then◌else◌}
 use Rattle.std.specs.Prelude.{List, length, slice_index, take, sum}
 use Rattle.sota_units.specs.Rounding.{ONE, SCALE_LIMIT}
-use Rattle.sota_block.specs.Meeting.{met}
+use Rattle.sota_block.specs.Meeting.{met, IsSkips}
 use Rattle.sota_block.specs.Product.{sum_below, fold_count}
 
 -- the products at a position of the masses b with size <= b < 2 * size, with the values from
@@ -46,24 +46,24 @@ pub record Holds (masses values reach : ℕ → ℕ) (count position low high : 
   pub low_le : low ≤ levels masses (λ a. 1) reach count position * 4294967295
   pub high_le : high ≤ levels masses (λ a. 1) reach count position * 4294967295
 
--- What a summer by squares keeps: the kernel and as many zeros, the least level and size of its
--- squares, values of which the first `fed` were fed, and at each position two numbers that hold the
--- products of all whole blocks of these levels
-pub record IsWorked (masses : List ℕ) (span first smallest : ℕ) (values : List ℕ) (fed : ℕ)
+-- What a summer by squares keeps: the kernel, the least level and size of its squares, values of
+-- which the first `fed` were fed, and at each position two numbers that hold the products of all
+-- whole blocks of these levels. Where the kernel is too short for a square it needs no rows
+pub record IsWorked (masses skips : List ℕ) (first smallest : ℕ) (values : List ℕ) (fed : ℕ)
     (low high thin wide : List ℕ) : Type 0 where
+  pub skips_are : IsSkips masses skips 0
   pub size_is : smallest ≡ 2 ^ first
-  pub first_ge : 2 ≤ first
-  pub first_le : first ≤ 7
-  pub twice : length masses ≡ 2 * span
-  pub none_past : (b : ℕ) → span < b → numbered masses b ≡ 0
+  pub first_ge : 3 ≤ first
+  pub first_le : first ≤ 9
   pub few : sum masses ≤ SCALE_LIMIT
   pub fed_le : fed ≤ length values
   pub few_values : length values ≤ 65536
-  pub few_masses : span ≤ length values
-  pub low_room : length low ≡ length values + 2 * span + 1
+  pub few_masses : length masses ≤ length values
+  pub low_eights : length low % 8 ≡ 0
+  pub low_room : smallest ≤ length masses → length values < length low
   pub high_room : length high ≡ length low
-  pub thin_room : 2 * span + 16 ≤ length thin
-  pub wide_room : 6 * span ≤ length wide
+  pub thin_room : smallest ≤ length masses → 2 * length masses + 16 ≤ length thin
+  pub wide_room : smallest ≤ length masses → 6 * length masses ≤ length wide
   pub small : (a : ℕ) → slice_index values a ≤ ONE
   pub held : (p : ℕ) → p < length low
       → Holds (numbered masses) (λ a. slice_index (take fed values) a) (λ r. reached first fed r)

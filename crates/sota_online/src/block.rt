@@ -1,14 +1,17 @@
 // Sums by squares.
-ghost use Rattle.std.specs.Prelude.{◌≡◌, ◌≤◌, ◌+◌, ◌^◌, [], length, false, IfOk};
+ghost use Rattle.std.specs.Prelude.{◌≡◌, ℕ, ◌≤◌, ◌<◌, ◌+◌, ◌-◌, ◌*◌, ◌^◌, [], length, slice_index};
+ghost use Rattle.std.specs.Prelude.{false, true, IfOk, ◌%◌, ◌⊎◌};
+ghost use Rattle.sota_units.specs.Rounding.{HEFT_LIMIT};
 ghost use Rattle.sota_hist.specs.Time.{is_closed};
 ghost use Rattle.sota_online.specs.Summer.{kernel_of, plain, fed_more};
 ghost use Rattle.sota_online.specs.Squares.{square_counts};
 
 use crate::Summer;
-use crate::halves::{crossed, joined};
-use crate::kernel::kernel_masses;
+use crate::halves::{add_halves, joined};
+use crate::kernel::{kernel_masses, skips_of};
 use crate::levels::work_off;
 use crate::square::some_masses;
+use crate::sums::{plain_sum, plain_sums};
 use sota_hist::Histogram;
 use sota_units::{Grain, Heft, NoMemory, Steps};
 use std::alloc::Global;
@@ -19,13 +22,14 @@ use std::sync::ledger::Ledger;
 /// and a square is made of the masses from a power of two up to the next and of as many values, a
 /// whole block of them. It is worked off when its block is complete, and it lands at positions
 /// after the block, so what squares make of a sum is there when it is asked for. The smallest
-/// squares would cost more than they save: `sum` adds the products of the first 31 masses itself,
-/// or of the first 127 where many of these are not 0. No counter counts them.
+/// squares would cost more than they save: `sum` and `sums` add the products of the first 31 masses
+/// themselves, or of the first 127 where many of these are not 0. A short kernel has no squares.
+/// No counter counts what is added so.
 #[derive(Drop)]
 pub struct BlockSummer {
-    // The kernel's masses, and as many zeros.
     masses: Vec<u32>,
-    span: usize,
+    // At each place of the kernel, where its next mass is that is not 0.
+    skips: Vec<u32>,
     // The level and the size of the smallest squares: two to the level.
     first: u32,
     smallest: usize,
@@ -48,33 +52,31 @@ impl Model for BlockSummer {
     ghost Value = { SummerState };
 
     ghost view = { λ s. record {
-      kernel = take s.span s.masses.items;
+      kernel = s.masses.items;
       values = take s.fed s.values.items;
       room = length s.values.items - s.fed;
     } };
 
-    ghost invariant = { λ s. IsWorked s.masses.items s.span s.first s.smallest
-        s.values.items s.fed s.low.items s.high.items s.thin.items s.wide.items };
+    ghost invariant = { λ s. IsWorked s.masses.items s.skips.items s.first s.smallest s.values.items
+        s.fed s.low.items s.high.items s.thin.items s.wide.items };
 }
 
 impl Summer for BlockSummer {
     ghost state = { λ s. s };
 
     fn make(alloc: Global, time: &Histogram, length: u32) -> Result<Self, NoMemory> {
-        let mut masses = kernel_masses(alloc, time, length)?;
-        let span = masses.len();
-        let zeros = vec![in alloc; 0; span]?;
-        masses.extend_from_slice(&zeros)?;
+        let masses = kernel_masses(alloc, time, length)?;
+        let skips = skips_of(alloc, &masses)?;
         let (first, smallest) = smallest_square(&masses);
         let values = vec![in alloc; 0; length as usize]?;
-        let places = length as usize + 2 * span + 1;
-        let low = vec![in alloc; 0; places]?;
-        let high = vec![in alloc; 0; places]?;
-        let thin = vec![in alloc; 0; 2 * span + 16]?;
-        let wide = vec![in alloc; 0; 6 * span]?;
+        let rooms = rooms_of(masses.len(), smallest, length);
+        let low = vec![in alloc; 0; rooms.sums]?;
+        let high = vec![in alloc; 0; rooms.sums]?;
+        let thin = vec![in alloc; 0; rooms.thin]?;
+        let wide = vec![in alloc; 0; rooms.wide]?;
         Ok(BlockSummer {
             masses,
-            span,
+            skips,
             first,
             smallest,
             values,
@@ -105,39 +107,100 @@ impl Summer for BlockSummer {
     {
         self.values[self.fed] = value.get();
         self.fed += 1;
-        work_off(
-            &self.masses,
-            self.span,
-            self.first,
-            self.smallest,
-            &self.values[..self.fed],
-            &mut self.low,
-            &mut self.high,
-            &mut self.thin,
-            &mut self.wide,
-            products,
-        );
+        if ends_block(self.masses.len(), self.first, self.smallest, self.fed) {
+            work_off(
+                &self.masses,
+                &self.skips,
+                self.first,
+                self.smallest,
+                &self.values[..self.fed],
+                &mut self.low,
+                &mut self.high,
+                &mut self.thin,
+                &mut self.wide,
+                products,
+            );
+        }
     }
 
     fn sum(&self, position: u32) -> Heft {
         let place = position as usize;
-        let few = place.min(self.smallest - 1).min(self.span);
-        let near = crossed(&self.masses[..few], &self.values[place - few..place]);
-        joined(self.low[place], self.high[place]).plus(near)
+        if self.masses.len() < self.smallest {
+            return plain_sum(&self.masses, &self.values[..self.fed], place);
+        }
+        let near = &self.masses[..self.smallest - 1];
+        let sum = plain_sum(near, &self.values[..self.fed], place);
+        joined(self.low[place], self.high[place]).plus(sum)
+    }
+
+    fn sums(&self, from: u32, into: &mut [u128]) {
+        let from = from as usize;
+        if self.masses.len() < self.smallest {
+            return plain_sums(&self.masses, &self.values[..self.fed], from, into);
+        }
+        let end = from + into.len();
+        let near = &self.masses[..self.smallest - 1];
+        plain_sums(near, &self.values[..self.fed], from, into);
+        add_halves(&self.low[from..end], &self.high[from..end], into);
     }
 }
 
+// How many places the rows of a summer have.
+#[derive(Clone, Copy)]
+struct Rooms {
+    sums: usize,
+    thin: usize,
+    wide: usize,
+}
+
+// None where the kernel is too short for a square.
+fn rooms_of(span: usize, smallest: usize, length: u32) -> Rooms
+    requires { span ≤ length }
+    ensures sums { smallest ≤ span → length < result.sums }
+    ensures eights { result.sums % 8 ≡ 0 }
+    ensures thin { smallest ≤ span → 2 * span + 16 ≤ result.thin }
+    ensures wide { smallest ≤ span → 6 * span ≤ result.wide }
+{
+    if span < smallest {
+        return Rooms {
+            sums: 0,
+            thin: 0,
+            wide: 0,
+        };
+    }
+    Rooms {
+        sums: (length as usize / 8 + 1) * 8,
+        thin: 2 * span + 16,
+        wide: 6 * span,
+    }
+}
+
+// Whether so many values end a block, and the kernel is long enough for a square.
+#[inline(always)]
+fn ends_block(span: usize, first: u32, smallest: usize, fed: usize) -> bool
+    requires { smallest ≡ 2 ^ first }
+    ensures long { result ≡ true → smallest ≤ span }
+    ensures whole { result ≡ true → fed % 2 ^ first ≡ 0 }
+    ensures idle { result ≡ false → (span < smallest) ⊎ (fed % 2 ^ first ≡ 0 → ⊥) }
+{
+    smallest <= span && fed & (smallest - 1) == 0
+}
+
 // The level and the size of the smallest squares of a kernel: level 5 where less than a quarter of
-// the first masses is not 0, since few masses cost little, and else level 7.
+// the first masses is not 0, since few masses cost little, and else level 7. A kernel that squares
+// would not make faster, or not by much, is shorter than its smallest square.
 fn smallest_square(masses: &[u32]) -> (u32, usize)
     ensures size { result.1 ≡ 2 ^ result.0 }
-    ensures first_ge { 2 ≤ result.0 }
-    ensures first_le { result.0 ≤ 7 }
+    ensures first_ge { 3 ≤ result.0 }
+    ensures first_le { result.0 ≤ 9 }
 {
     let near = masses.len().min(127);
-    if 4 * some_masses(&masses[..near]) < near {
+    let few = 4 * some_masses(&masses[..near]) < near;
+    if few && masses.len() >= 256 {
         (5, 32)
-    } else {
+    } else if masses.len() >= 512 {
         (7, 128)
+    } else {
+        (9, 512)
     }
 }

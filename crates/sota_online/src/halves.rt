@@ -1,5 +1,5 @@
 // Sums in two halves of 32 bits each.
-ghost use Rattle.std.specs.Prelude.{◌≡◌, ◌+◌, ◌-◌, ◌*◌, ◌^◌, ◌<◌, ◌≤◌, length, sum, slice_index};
+ghost use Rattle.std.specs.Prelude.{◌≡◌, ℕ, ◌+◌, ◌-◌, ◌*◌, ◌^◌, ◌<◌, ◌≤◌, length, sum, slice_index};
 ghost use Rattle.sota_units.specs.Rounding.{SCALE_LIMIT, HEFT_LIMIT};
 ghost use Rattle.sota_block.specs.Product.{sum_below};
 
@@ -35,4 +35,18 @@ pub(crate) fn crossed(masses: &[u32], values: &[u64]) -> Heft
         high += mass * (value / 4_294_967_296);
     }
     joined(low, high)
+}
+
+/// Adds hefts in halves to sums.
+pub(crate) fn add_halves(low: &[u64], high: &[u64], into: &mut [u128])
+    requires low_length { length low.now ≡ length into.old }
+    requires high_length { length high.now ≡ length into.old }
+    requires small { (k : ℕ) → k < length into.old → slice_index into.old k < 2 ^ 97 }
+    ensures small { (k : ℕ) → k < length into.old → slice_index into.new k < 2 ^ 98 }
+    ensures sums { (k : ℕ) → k < length into.old → slice_index into.new k
+        ≡ slice_index into.old k + (slice_index low.now k + 4294967296 * slice_index high.now k) }
+{
+    for k in 0..into.len() {
+        into[k] += u128::from(high[k]) * 4_294_967_296 + u128::from(low[k]);
+    }
 }

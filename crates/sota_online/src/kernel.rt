@@ -2,6 +2,7 @@
 ghost use Rattle.std.specs.Prelude.{◌≡◌, ◌≤◌, length, sum, min, false, IfOk, vec_len};
 ghost use Rattle.sota_hist.specs.Time.{is_closed};
 ghost use Rattle.sota_units.specs.Rounding.{SCALE_LIMIT};
+ghost use Rattle.sota_block.specs.Meeting.{IsSkips};
 ghost use Rattle.sota_online.specs.Summer.{kernel_of, span};
 
 use sota_hist::Histogram;
@@ -38,4 +39,21 @@ pub(crate) fn kernel_masses(
         }
     }
     Ok(masses)
+}
+
+/// At each place of a kernel, where its next mass is that is not 0.
+pub(crate) fn skips_of(alloc: Global, masses: &[u32]) -> Result<Vec<u32>, NoMemory>
+    requires { length masses.now ≤ 65536 }
+    ensures { IfOk result (λ skips. IsSkips masses.now skips.items 0) }
+{
+    let mut skips = vec![in alloc; 0; masses.len()]?;
+    let mut next = masses.len() as u32;
+    for k in 0..masses.len() {
+        let place = masses.len() - 1 - k;
+        if masses[place] != 0 {
+            next = place as u32;
+        }
+        skips[place] = next;
+    }
+    Ok(skips)
 }

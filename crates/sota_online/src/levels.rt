@@ -1,20 +1,21 @@
 // The squares that a value makes whole.
-ghost use Rattle.std.specs.Prelude.{◌≡◌, ℕ, ◌+◌, ◌-◌, ◌*◌, ◌^◌, ◌<◌, ◌≤◌, length, slice_index, sum};
+ghost use Rattle.std.specs.Prelude.{◌≡◌, ℕ, ◌+◌, ◌-◌, ◌*◌, ◌%◌, ◌^◌, ◌<◌, ◌≤◌, length};
+ghost use Rattle.std.specs.Prelude.{slice_index, sum};
 ghost use Rattle.sota_units.specs.Rounding.{ONE, SCALE_LIMIT};
-ghost use Rattle.sota_block.specs.Meeting.{meeting};
+ghost use Rattle.sota_block.specs.Meeting.{IsSkips};
 ghost use Rattle.sota_block.specs.Product.{IsBlockLength, fold_count};
-ghost use Rattle.sota_online.specs.Products.{most};
+ghost use Rattle.sota_online.specs.Products.{Fits, Landed};
 ghost use Rattle.sota_online.specs.Squares.{Holds, LEVELS, numbered, reached, square_counts};
 
 use crate::square::add_square;
 use sota_units::Steps;
 use std::sync::ledger::Ledger;
 
-/// Works off each square that the last value makes whole: at each size, a power of two from the
-/// smallest on, of which the number of values is a multiple.
+/// Works off each square that the last of some whole blocks of the smallest size makes whole: at
+/// each size, a power of two, of which the number of values is a multiple.
 pub(crate) fn work_off<M: Ledger>(
     masses: &[u32],
-    span: usize,
+    skips: &[u32],
     first: u32,
     smallest: usize,
     values: &[u64],
@@ -24,19 +25,20 @@ pub(crate) fn work_off<M: Ledger>(
     wide: &mut [u128],
     products: &mut Steps<M>,
 )
+    requires skips { IsSkips masses.now skips.now 0 }
     requires some { 1 ≤ length values.now }
     requires few_values { length values.now ≤ 65536 }
     requires size { smallest ≡ 2 ^ first }
-    requires first_ge { 2 ≤ first }
-    requires first_le { first ≤ 7 }
-    requires twice { length masses.now ≡ 2 * span }
-    requires none_past { (b : ℕ) → span < b → numbered masses.now b ≡ 0 }
+    requires whole { length values.now % 2 ^ first ≡ 0 }
+    requires first_ge { 3 ≤ first }
+    requires first_le { first ≤ 9 }
     requires few { sum masses.now ≤ SCALE_LIMIT }
-    requires low_room { length values.now + 2 * span ≤ length low.old }
+    requires low_eights { length low.old % 8 ≡ 0 }
+    requires low_room { length values.now ≤ length low.old }
     requires high_room { length high.old ≡ length low.old }
     requires small { (a : ℕ) → slice_index values.now a ≤ ONE }
-    requires thin_room { 2 * span + 16 ≤ length thin.old }
-    requires wide_room { 6 * span ≤ length wide.old }
+    requires thin_room { 2 * length masses.now + 16 ≤ length thin.old }
+    requires wide_room { 6 * length masses.now ≤ length wide.old }
     requires held { (p : ℕ) → p < length low.old
         → Holds (numbered masses.now) (λ a. slice_index values.now a)
         (λ r. reached first (length values.now - 1) r) LEVELS p
@@ -45,21 +47,21 @@ pub(crate) fn work_off<M: Ledger>(
         → Holds (numbered masses.now) (λ a. slice_index values.now a)
         (λ r. reached first (length values.now) r) LEVELS p
         (slice_index low.new p) (slice_index high.new p) }
-    ensures count { products.new ≤ products.old + square_counts span (length values.now) }
+    ensures count { products.new
+        ≤ products.old + square_counts (length masses.now) (length values.now) }
 {
     let known = values.len();
-    let past = known & (smallest - 1);
-    if past != 0 {
-        return;
-    }
     let mut size = smallest;
     let mut blocks = known >> first;
     for level in first..17 {
-        if size > span {
+        if size > masses.len() {
             return;
         }
+        let end = masses.len().min(2 * size - 1);
         add_at(
-            &masses[size - 1..2 * size - 1],
+            &masses[size - 1..end],
+            &skips[size - 1..end],
+            size - 1,
             &values[known - size..],
             known,
             low,
@@ -76,10 +78,12 @@ pub(crate) fn work_off<M: Ledger>(
     }
 }
 
-// The products of a block of masses and a block of values, from a place on.
+// The products of masses and a block of values, from a place on.
 #[inline(always)]
 fn add_at<M: Ledger>(
     masses: &[u32],
+    skips: &[u32],
+    shift: usize,
     values: &[u64],
     at: usize,
     low: &mut [u64],
@@ -88,39 +92,30 @@ fn add_at<M: Ledger>(
     wide: &mut [u128],
     products: &mut Steps<M>,
 )
-    requires block { IsBlockLength (length masses.now) }
-    requires eights { 4 ≤ length masses.now }
-    requires same_length { length values.now ≡ length masses.now }
-    requires low_room { at + 2 * length masses.now ≤ length low.old }
-    requires high_room { at + 2 * length masses.now ≤ length high.old }
+    requires block { IsBlockLength (length values.now) }
+    requires within { length masses.now ≤ length values.now }
+    requires skips { IsSkips masses.now skips.now shift }
+    requires near { shift ≤ 65536 }
+    requires at_eights { at % 8 ≡ 0 }
+    requires block_eights { length values.now % 8 ≡ 0 }
+    requires low_eights { length low.old % 8 ≡ 0 }
+    requires low_room { at ≤ length low.old }
+    requires high_room { length high.old ≡ length low.old }
     requires few { sum masses.now ≤ SCALE_LIMIT }
     requires small { (a : ℕ) → slice_index values.now a ≤ ONE }
-    requires thin_room { 2 * length masses.now + 16 ≤ length thin.old }
-    requires wide_room { 6 * length masses.now ≤ length wide.old }
-    requires low_fits { (k : ℕ) → k < 2 * length masses.now
-        → slice_index low.old (at + k) + most masses.now k < 2 ^ 64 }
-    requires high_fits { (k : ℕ) → k < 2 * length masses.now
-        → slice_index high.old (at + k) + most masses.now k < 2 ^ 64 }
-    ensures sums { (k : ℕ) → k < 2 * length masses.now
-        → slice_index low.new (at + k) + 4294967296 * slice_index high.new (at + k)
-        ≡ slice_index low.old (at + k) + 4294967296 * slice_index high.old (at + k)
-        + meeting masses.now (λ a. slice_index values.now a) (length masses.now) k }
-    ensures low_small { (k : ℕ) → k < 2 * length masses.now
-        → slice_index low.new (at + k) ≤ slice_index low.old (at + k) + most masses.now k }
-    ensures high_small { (k : ℕ) → k < 2 * length masses.now
-        → slice_index high.new (at + k) ≤ slice_index high.old (at + k) + most masses.now k }
-    ensures low_before { (k : ℕ) → k < at → slice_index low.new k ≡ slice_index low.old k }
-    ensures high_before { (k : ℕ) → k < at → slice_index high.new k ≡ slice_index high.old k }
-    ensures low_after { (k : ℕ) → at + 2 * length masses.now ≤ k
-        → slice_index low.new k ≡ slice_index low.old k }
-    ensures high_after { (k : ℕ) → at + 2 * length masses.now ≤ k
-        → slice_index high.new k ≡ slice_index high.old k }
-    ensures count { (r : ℕ) → length masses.now ≡ 2 ^ r
+    requires thin_room { 2 * length values.now + 16 ≤ length thin.old }
+    requires wide_room { 6 * length values.now ≤ length wide.old }
+    requires low_fits { Fits masses.now (length values.now) at low.old }
+    requires high_fits { Fits masses.now (length values.now) at high.old }
+    ensures landed { Landed masses.now values.now at low.old high.old low.new high.new }
+    ensures count { (r : ℕ) → length values.now ≡ 2 ^ r
         → products.new ≤ products.old + fold_count r }
 {
-    let end = at + 2 * masses.len();
+    let end = low.len().min(at + 2 * values.len());
     add_square(
         masses,
+        skips,
+        shift,
         values,
         &mut low[at..end],
         &mut high[at..end],

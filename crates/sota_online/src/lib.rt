@@ -10,6 +10,7 @@ mod levels;
 mod plain;
 mod square;
 mod summer;
+mod sums;
 #[cfg(test)]
 mod tests;
 

@@ -1,11 +1,12 @@
 // Each sum when it is asked for.
-ghost use Rattle.std.specs.Prelude.{◌≡◌, ◌≤◌, [], length, false, IfOk};
+ghost use Rattle.std.specs.Prelude.{◌≡◌, ℕ, ◌+◌, ◌<◌, ◌≤◌, [], length, slice_index, false, IfOk};
+ghost use Rattle.sota_units.specs.Rounding.{HEFT_LIMIT};
 ghost use Rattle.sota_hist.specs.Time.{is_closed};
 ghost use Rattle.sota_online.specs.Summer.{kernel_of, plain, fed_more};
 
 use crate::Summer;
-use crate::halves::crossed;
 use crate::kernel::kernel_masses;
+use crate::sums::{plain_sum, plain_sums};
 use sota_hist::Histogram;
 use sota_units::{Grain, Heft, NoMemory, Steps};
 use std::alloc::Global;
@@ -69,8 +70,10 @@ impl Summer for PlainSummer {
     }
 
     fn sum(&self, position: u32) -> Heft {
-        let place = position as usize;
-        let few = place.min(self.kernel.len());
-        crossed(&self.kernel[..few], &self.values[place - few..place])
+        plain_sum(&self.kernel, &self.values[..self.fed], position as usize)
+    }
+
+    fn sums(&self, from: u32, into: &mut [u128]) {
+        plain_sums(&self.kernel, &self.values[..self.fed], from as usize, into);
     }
 }

@@ -1,21 +1,23 @@
 // The products of a block of masses and a block of values.
-ghost use Rattle.std.specs.Prelude.{◌≡◌, ℕ, ◌+◌, ◌*◌, ◌^◌, ◌<◌, ◌≤◌, length, slice_index, sum};
+ghost use Rattle.std.specs.Prelude.{◌≡◌, ℕ, ◌+◌, ◌*◌, ◌%◌, ◌^◌, ◌<◌, ◌≤◌, length, slice_index};
 ghost use Rattle.std.specs.Prelude.{count_by, nat_lt};
-ghost use Rattle.sota_units.specs.Rounding.{ONE, SCALE_LIMIT};
-ghost use Rattle.sota_block.specs.Product.{IsBlockLength, fold_count};
-ghost use Rattle.sota_online.specs.Products.{HasRoom, SumsGrow, GrowsByMost};
+ghost use Rattle.sota_block.specs.Meeting.{IsSkips};
+ghost use Rattle.sota_block.specs.Product.{fold_count};
+ghost use Rattle.sota_online.specs.Products.{IsSquare, Added};
 
 use crate::folded::add_folded;
 use sota_block::{add_block, fold_products};
 use sota_units::Steps;
 use std::sync::ledger::Ledger;
 
-/// Adds the products of a block of masses and a block of values to the sums of two blocks of
-/// places, each sum in two halves: plainly where so few masses are not 0 that it takes no more
-/// products than a folded product, and else by that.
+/// Adds the products of a block of values and of as many masses, or fewer, to the sums of the first
+/// places where they land, each sum in two halves: plainly where so few masses are not 0 that it
+/// takes no more products than a folded product, and else by that.
 #[inline(always)]
 pub(crate) fn add_square<M: Ledger>(
     masses: &[u32],
+    skips: &[u32],
+    shift: usize,
     values: &[u64],
     low: &mut [u64],
     high: &mut [u64],
@@ -23,30 +25,25 @@ pub(crate) fn add_square<M: Ledger>(
     wide: &mut [u128],
     products: &mut Steps<M>,
 )
-    requires block { IsBlockLength (length masses.now) }
-    requires eights { 4 ≤ length masses.now }
-    requires same_length { length values.now ≡ length masses.now }
-    requires low_room { length low.old ≡ 2 * length masses.now }
-    requires high_room { length high.old ≡ 2 * length masses.now }
-    requires low_fits { HasRoom masses.now low.old }
-    requires high_fits { HasRoom masses.now high.old }
-    requires few { sum masses.now ≤ SCALE_LIMIT }
-    requires small { (a : ℕ) → slice_index values.now a ≤ ONE }
-    requires thin_room { 2 * length masses.now + 16 ≤ length thin.old }
-    requires wide_room { 6 * length masses.now ≤ length wide.old }
-    ensures sums { SumsGrow masses.now values.now low.old high.old low.new high.new }
-    ensures low_small { GrowsByMost masses.now low.old low.new }
-    ensures high_small { GrowsByMost masses.now high.old high.new }
-    ensures count { (r : ℕ) → length masses.now ≡ 2 ^ r
+    requires square { IsSquare masses.now values.now low.old high.old }
+    requires skips { IsSkips masses.now skips.now shift }
+    requires near { shift ≤ 65536 }
+    requires eights { length low.old % 8 ≡ 0 }
+    requires thin_room { 2 * length values.now + 16 ≤ length thin.old }
+    requires wide_room { 6 * length values.now ≤ length wide.old }
+    ensures added { Added masses.now values.now low.old high.old low.new high.new }
+    ensures count { (r : ℕ) → length values.now ≡ 2 ^ r
         → products.new ≤ products.old + fold_count r }
 {
     let some = some_masses(masses);
     if some == 0 {
         return;
     }
-    let taken = some * masses.len();
-    if taken <= fold_products(masses.len()) {
-        return add_plain(masses, values, low, high, thin, taken, products);
+    let taken = some * values.len();
+    if taken <= fold_products(values.len()) {
+        return add_plain(
+            masses, skips, shift, values, low, high, thin, taken, products,
+        );
     }
     add_folded(masses, values, low, high, thin, wide, products);
 }
@@ -72,6 +69,8 @@ pub(crate) fn some_masses(masses: &[u32]) -> usize
 #[inline(always)]
 fn add_plain<M: Ledger>(
     masses: &[u32],
+    skips: &[u32],
+    shift: usize,
     values: &[u64],
     low: &mut [u64],
     high: &mut [u64],
@@ -79,20 +78,15 @@ fn add_plain<M: Ledger>(
     taken: usize,
     products: &mut Steps<M>,
 )
-    requires block { IsBlockLength (length masses.now) }
-    requires eights { 4 ≤ length masses.now }
-    requires same_length { length values.now ≡ length masses.now }
-    requires low_room { length low.old ≡ 2 * length masses.now }
-    requires high_room { length high.old ≡ 2 * length masses.now }
-    requires low_fits { HasRoom masses.now low.old }
-    requires high_fits { HasRoom masses.now high.old }
-    requires padded_room { length masses.now + 16 ≤ length padded.old }
-    requires taken { count_by (λ m. nat_lt 0 m) masses.now * length masses.now ≤ taken }
-    ensures sums { SumsGrow masses.now values.now low.old high.old low.new high.new }
-    ensures low_small { GrowsByMost masses.now low.old low.new }
-    ensures high_small { GrowsByMost masses.now high.old high.new }
+    requires square { IsSquare masses.now values.now low.old high.old }
+    requires skips { IsSkips masses.now skips.now shift }
+    requires near { shift ≤ 65536 }
+    requires eights { length low.old % 8 ≡ 0 }
+    requires padded_room { length values.now + 16 ≤ length padded.old }
+    requires taken { count_by (λ m. nat_lt 0 m) masses.now * length values.now ≤ taken }
+    ensures added { Added masses.now values.now low.old high.old low.new high.new }
     ensures count { products.new ≡ products.old + taken }
 {
-    add_block(masses, values, padded, low, high);
+    add_block(masses, skips, shift, values, padded, low, high);
     products.add(taken as u64);
 }

@@ -1,5 +1,6 @@
 // Sums over a list of values that grows.
-ghost use Rattle.std.specs.Prelude.{◌≡◌, ◌≤◌, [], length, false, IfOk};
+ghost use Rattle.std.specs.Prelude.{◌≡◌, ℕ, ◌+◌, ◌<◌, ◌≤◌, [], length, slice_index, false, IfOk};
+ghost use Rattle.sota_units.specs.Rounding.{HEFT_LIMIT};
 ghost use Rattle.sota_hist.specs.Time.{is_closed};
 ghost use Rattle.sota_online.specs.Summer.{SummerState, kernel_of, plain, fed_more};
 
@@ -45,4 +46,13 @@ pub trait Summer: Sized + Drop {
         requires positive { 1 ≤ position }
         requires known { position ≤ length (state self.now).values }
         ensures { result ≡ plain (state self.now).kernel (state self.now).values position };
+
+    /// The sums at as many positions in a row as `into` has places, from a position on. It takes no
+    /// memory.
+    fn sums(&self, from: u32, into: &mut [u128])
+        requires positive { 1 ≤ from }
+        requires known { from + length into.old ≤ length (state self.now).values + 1 }
+        ensures sums { (k : ℕ) → k < length into.old → slice_index into.new k
+            ≡ plain (state self.now).kernel (state self.now).values (from + k) }
+        ensures hefts { (k : ℕ) → k < length into.old → slice_index into.new k ≤ HEFT_LIMIT };
 }

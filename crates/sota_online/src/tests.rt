@@ -11,7 +11,7 @@ use std::process::Abort;
 use std::sync::ledger::{Blank, Ledger};
 use std::test::Fail;
 
-// The sums at each position as soon as it is known.
+// The sums at each position as soon as it is known, and then all at once.
 fn sums_of<S: Summer, M: Ledger>(
     alloc: Global,
     time: &Histogram,
@@ -33,10 +33,13 @@ fn sums_of<S: Summer, M: Ledger>(
             sums.push(summer.sum(position).get())?;
         }
     }
+    let mut all = vec![in alloc; 0u128; summer.fed() as usize]?;
+    summer.sums(1, &mut all);
+    sums.extend_from_slice(&all)?;
     Ok(sums)
 }
 
-// The sums of both forms, which must be equal: one for each value.
+// The sums of both forms, which must be equal: one for each value, and each once more.
 fn both<M: Ledger>(
     rt: &impl Abort,
     alloc: Global,
@@ -53,9 +56,24 @@ fn both<M: Ledger>(
     let plain = sums_of::<PlainSummer, M>(alloc, time, values, products)
         .ok()
         .ok_or("plain sums")?;
-    assert_eq!(rt; plain.len(), values.len());
+    let (first, second) = plain.split_at(plain.len() / 2);
+    assert_eq!(rt; first.len(), values.len());
+    assert_eq!(rt; first, second);
     assert_eq!(rt; block.as_slice(), plain.as_slice());
     Ok(plain)
+}
+
+// The histogram of some masses, whose scale is their sum.
+fn time_of(alloc: Global, pairs: &[(Tick, Mass)]) -> Result<Histogram, Fail> {
+    if pairs.len() > 1000 {
+        return Err(Fail::from("too many masses"));
+    }
+    let mut sum = 0u32;
+    for (_, mass) in pairs {
+        sum = sum.wrapping_add(mass.get());
+    }
+    let scale = Scale::new(sum).ok_or("a scale")?;
+    Ok(Histogram::build(alloc, scale, pairs)?)
 }
 
 // The masses 3 at tick 3 and 1 at tick 5: with three ones the sums are 3, 3 and 4 wholes.
@@ -64,26 +82,23 @@ fn third_arc<M: Ledger>(
     alloc: Global,
     products: &mut Steps<M>,
 ) -> Result<(), Fail> {
-    let four = Scale::new(4).ok_or("a scale")?;
-    let time = Histogram::build(alloc, four, &[(Tick(3), Mass(3)), (Tick(5), Mass(1))])?;
+    let time = time_of(alloc, &[(Tick(3), Mass(3)), (Tick(5), Mass(1))])?;
     let sums = both(rt, alloc, &time, &[Grain::ONE; 3], products)?;
     let one = 1_000_000_000_000_000_000u128;
-    assert_eq!(rt; sums.as_slice(), [3 * one, 3 * one, 4 * one].as_slice());
+    let wanted = [3 * one, 3 * one, 4 * one, 3 * one, 3 * one, 4 * one];
+    assert_eq!(rt; sums.as_slice(), wanted.as_slice());
     Ok(())
 }
 
 // Two roads in a row that each take 1 to 33 ticks, all equally likely: by the second alone the
 // chance within t ticks is t of 33. Position p stands for a budget of p + 1 ticks over both.
 fn chain<M: Ledger>(rt: &impl Abort, alloc: Global, products: &mut Steps<M>) -> Result<(), Fail> {
-    let mut pairs = [(Tick(1), Mass(1)); 33];
-    let mut values = [Grain::ONE; 70];
-    for k in 0..33u32 {
-        pairs[k as usize] = (Tick(k + 1), Mass(1));
-        let part = (u128::from(k) + 1) * 1_000_000_000_000_000_000 / 33;
-        values[k as usize] = Grain::new(part as u64).ok_or("a probability")?;
+    let time = time_of(alloc, &spread(alloc, 33, 1, 0)?)?;
+    let mut values = vec![in alloc; Grain::ONE; 0]?;
+    for tick in 1..71u32 {
+        let part = u128::from(tick.min(33)) * 1_000_000_000_000_000_000 / 33;
+        values.push(Grain::new(part as u64).unwrap_or(Grain::ZERO))?;
     }
-    let scale = Scale::new(33).ok_or("a scale")?;
-    let time = Histogram::build(alloc, scale, &pairs)?;
     let sums = both(rt, alloc, &time, &values, products)?;
     for (budget, chance) in [
         (33, 484_848_484_848_484_848),
@@ -96,10 +111,24 @@ fn chain<M: Ledger>(rt: &impl Abort, alloc: Global, products: &mut Steps<M>) -> 
     Ok(())
 }
 
+// A mass at one in so many ticks of a span; masses differ by as much as `spread` says.
+fn spread(alloc: Global, span: u32, step: u32, spread: u32) -> Result<Vec<(Tick, Mass)>, NoMemory> {
+    let mut pairs = vec![in alloc; (Tick(0), Mass(0)); 0]?;
+    for place in 0..span {
+        if place.checked_rem(step) == Some(0) {
+            let more = place.wrapping_mul(spread) % 1000;
+            pairs.push((Tick(place.wrapping_add(1)), Mass(more + 1)))?;
+        }
+    }
+    Ok(pairs)
+}
+
 // Kernels with a mass at each so many ticks: their span, the step, and how many values are fed.
-const KERNELS: [(u32, u32, usize); 6] = [
+const KERNELS: [(u32, u32, usize); 8] = [
     (1, 1, 9),
+    (64, 10, 500),
     (200, 7, 300),
+    (300, 1, 400),
     (1000, 1, 2000),
     (1000, 10, 2000),
     (50, 1, 21),
@@ -107,28 +136,17 @@ const KERNELS: [(u32, u32, usize); 6] = [
 ];
 
 fn kernels<M: Ledger>(rt: &impl Abort, alloc: Global, products: &mut Steps<M>) -> Result<(), Fail> {
-    let mut values = [Grain::ZERO; 2000];
+    let mut values = vec![in alloc; Grain::ZERO; 0]?;
     let mut seed = 1u64;
-    for k in 0..2000 {
+    for _ in 0..2000 {
         seed = seed.wrapping_mul(6364136223846793005).wrapping_add(1);
-        values[k] = Grain::new(seed % 1_000_000_000_000_000_001).ok_or("a probability")?;
+        let value = Grain::new(seed % 1_000_000_000_000_000_001);
+        values.push(value.unwrap_or(Grain::ZERO))?;
     }
     for (span, step, length) in KERNELS {
-        let mut pairs = vec![in alloc; (Tick(0), Mass(0)); 0]?;
-        let mut sum = 0u32;
-        for place in 0..span {
-            if place.checked_rem(step) == Some(0) {
-                let mass = 1 + place.wrapping_mul(7919) % 1000;
-                pairs.push((Tick(place.wrapping_add(10)), Mass(mass)))?;
-                sum = sum.wrapping_add(mass);
-            }
-        }
-        let scale = Scale::new(sum).ok_or("a scale")?;
-        if pairs.len() > 1000 || length > 2000 {
-            return Err(Fail::from("too many masses or values"));
-        }
-        let time = Histogram::build(alloc, scale, &pairs)?;
-        both(rt, alloc, &time, &values[..length], products)?;
+        let time = time_of(alloc, &spread(alloc, span, step, 7919)?)?;
+        let values = values.get(..length).ok_or("so many values")?;
+        both(rt, alloc, &time, values, products)?;
     }
     Ok(())
 }

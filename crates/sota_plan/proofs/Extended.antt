@@ -1,17 +1,18 @@
 -- A run that is ready can be extended.
-use Rattle.std.proofs.Common.{ℕ, ◌≡◌, ◌+◌, ◌-◌, ◌≤◌, List, length, map, get_or, slice_index, Option, None, Some, refl, sym, ◌∙◌, ap, subst, arith}
+use Rattle.std.proofs.Common.{ℕ, ◌≡◌, ◌-◌, List, length, map, get_or, slice_index, slice_index_or, Option, None, refl, sym, ◌∙◌, ap, subst, arith}
 use Rattle.std.proofs.lemmas.List.{length-map}
 use Rattle.sota_network.specs.Network.{Net, IsNode}
 use Rattle.sota_online.specs.Summer.{SummerState}
 use Rattle.sota_bounds.specs.declared.ask.AskRegion.{AskRegion}
+use Rattle.sota_kept.specs.Ticks.{END_LIMIT, up_to, least_to}
 use Rattle.sota_kept.specs.NodeTables.{NodeTable, IsNodeTable, IsSettledAt, IsReadyAt, AreReady, AreSettled, known_end}
 use Rattle.sota_kept.specs.TableLists.{EntriesKept, EntriesSettled, table_of}
 use Rattle.sota_order.specs.Orders.{OrderView, CanBeMet, need_at, end_of}
-use Rattle.sota_tables.specs.Views.{TablesView, lists_of, table_at, room_of}
+use Rattle.sota_tables.specs.Views.{TablesView, lists_of, table_at}
 use Rattle.sota_fill.specs.Fed.{SummersList}
 use Rattle.sota_plan.specs.Laws.{RegionLaws}
 use Rattle.sota_plan.specs.Runs.{ArcSums, RunView, IsReady, states_of}
-use Rattle.sota_plan.specs.Extends.{Agrees, AllSummed}
+use Rattle.sota_plan.proofs.Extends.{Agrees, AllSummed}
 use Rattle.sota_plan.proofs.Stepping.{TableIs}
 use Rattle.sota_plan.proofs.Preparing.{can-be-met}
 use Rattle.sota_plan.proofs.SumGoing.{summed-first}
@@ -57,3 +58,11 @@ module _ (table : TableIs) (net : Net) (run : RunView) (v : TablesView) (R : Reg
     summed-first state net run.region R.laws R.is R.times R.needs R.none v broad (λ e arc at. sym (ap (λ (xs : List (Option ArcSums)). get_or xs (e - 1) None) are) ∙ ready.sums e arc at),
     sym (length-map broad (states_of state)) ∙ sym (ap (λ (xs : List (Option ArcSums)). length xs) are) ∙ ready.arcs,
   )
+
+-- a list that is that of the region has its least times
+pub least-times : (net : Net) (region : AskRegion) (least : List (Option ℕ)) → RegionLaws net region → least ≡ region.least
+    → (length least ≡ net.nodes) × ((i : ℕ) → IsNode net i → up_to END_LIMIT (slice_index_or least (i - 1) None) ≡ least_to net region.dest i)
+least-times net region least R at = (
+  ap (λ (xs : List (Option ℕ)). length xs) at ∙ R.is.nodes,
+  λ i node. ap (λ (xs : List (Option ℕ)). up_to END_LIMIT (slice_index_or xs (i - 1) None)) at ∙ R.times i node,
+)

@@ -1,10 +1,9 @@
 -- One extent after another, until all needs are met.
-use Rattle.std.proofs.Common.{ℕ, zero, suc, ◌≡◌, ◌≢◌, ◌+◌, ◌-◌, ◌*◌, ◌<◌, ◌≤◌, ◌⊎◌, inl, inr, max, List, [], ◌∷◌, ◌++◌, length, slice_index, Option, Some, refl, sym, ◌∙◌, ap, subst, arith, ⊎_elim}
+use Rattle.std.proofs.Common.{ℕ, zero, suc, ◌≡◌, ◌≢◌, ◌+◌, ◌-◌, ◌*◌, ◌<◌, ◌≤◌, inl, inr, max, List, [], ◌∷◌, length, slice_index, refl, sym, ◌∙◌, ap, subst, arith, ⊎_elim}
 use Rattle.std.specs.List.{sum}
 use Rattle.std.proofs.Math.ListN.{set}
 use Rattle.std.proofs.lemmas.Bool.{cases_eq}
 use Rattle.std.proofs.lemmas.List.{get_or-set_same, get_or-set_other}
-use Rattle.sota_units.specs.Limits.{BUDGET_LIMIT}
 use Rattle.sota_network.specs.Network.{Net, IsNode}
 use Rattle.sota_network.specs.Numbers.{listed}
 use Rattle.sota_network.specs.Region.{need}
@@ -14,9 +13,11 @@ use Rattle.sota_kept.specs.TableLists.{AreTables, table_of}
 use Rattle.sota_kept.specs.Asks.{IsGrown, left_to_push}
 use Rattle.sota_order.specs.Orders.{OrderView, CanBeMet, IsReach, IsNext, IsMet, need_at, end_of, with_front}
 use Rattle.sota_order.specs.declared.order.Extent.{Extent}
-use Rattle.sota_tables.specs.Views.{TablesView, lists_of, OnlyAt, SameNodes, table_at, room_of}
-use Rattle.sota_fill.specs.Fills.{IsLonger}
-use Rattle.sota_plan.specs.Extends.{Agrees, left_of}
+use Rattle.sota_tables.specs.Views.{TablesView, lists_of, SameNodes, table_at, room_of}
+use Rattle.sota_bounds.specs.declared.ask.AskRegion.{AskRegion}
+use Rattle.sota_fill.specs.Fills.{IsLonger, IsUnfilled}
+use Rattle.sota_plan.specs.Laws.{RegionLaws}
+use Rattle.sota_plan.proofs.Extends.{Agrees, left_of}
 use Rattle.sota_plan.proofs.Preparing.{sum-last}
 use Rattle.sota_plan.proofs.Stepping.{TableIs}
 
@@ -43,6 +44,7 @@ falls-by laws f g (suc n) i d low high here others =
 
 -- ---- between two extents
 pub record Going (net : Net) (dest : ℕ) (first now : OrderView) (old tables : TablesView) (before pushed : ℕ) : Type 0 where
+  pub node : IsNode net dest
   pub waiting : CanBeMet net now
   pub to : now.dest ≡ dest
   pub needs : now.needs ≡ first.needs
@@ -53,8 +55,9 @@ pub record Going (net : Net) (dest : ℕ) (first now : OrderView) (old tables : 
   pub dest_table : table_at tables dest ≡ table_at old dest
   pub count : pushed + 3 * left_of net.nodes first.needs (table_at tables) ≡ before + 3 * left_of net.nodes first.needs (table_at old)
 
-pub going-first : (net : Net) (dest : ℕ) (first : OrderView) (old : TablesView) (before : ℕ) → dest ≡ first.dest → CanBeMet net first → Agrees net first old → AreReady net dest (table_at old) → Going net dest first first old old before before
-going-first net dest first old before at waiting agrees ready = record {
+pub going-first : (net : Net) (dest : ℕ) (first : OrderView) (old : TablesView) (before : ℕ) → IsNode net dest → dest ≡ first.dest → CanBeMet net first → Agrees net first old → AreReady net dest (table_at old) → Going net dest first first old old before before
+going-first net dest first old before node at waiting agrees ready = record {
+  node = node;
   waiting = waiting;
   to = sym at;
   needs = refl;
@@ -67,21 +70,51 @@ going-first net dest first old before at waiting agrees ready = record {
 }
 
 -- an extent of an order is one of the tables
-abbrev pub ExtentIs : Net → Type 0
+abbrev ExtentIs : Net → Type 0
 ExtentIs net = (w : OrderView) (tables : ℕ → NodeTable) (i to : ℕ) → IsReach net w i to → ((j : ℕ) → IsNode net j → known_end (tables j) ≡ end_of w j) → IsExtent net w.dest tables i to
 
-pub next-extent : (net : Net) → ExtentIs net → (order : OrderView) (tables : TablesView) (extent : Extent) (dest : ℕ) → Agrees net order tables → IsNext net order extent → order.dest ≡ dest → IsExtent net dest (table_at tables) extent.node extent.to
+next-extent : (net : Net) → ExtentIs net → (order : OrderView) (tables : TablesView) (extent : Extent) (dest : ℕ) → Agrees net order tables → IsNext net order extent → order.dest ≡ dest → IsExtent net dest (table_at tables) extent.node extent.to
 next-extent net law order tables extent dest agrees next at =
     subst (λ (d : ℕ). IsExtent net d (table_at tables) extent.node extent.to) at (law order (table_at tables) extent.node extent.to next.reach (λ j node. sym (agrees.ends j node)))
 
 -- its node is not the destination, which is not needed
-pub next-off : (net : Net) (order : OrderView) (extent : Extent) (dest : ℕ) → CanBeMet net order → IsNext net order extent → dest ≡ order.dest → extent.node ≢ dest
+next-off : (net : Net) (order : OrderView) (extent : Extent) (dest : ℕ) → CanBeMet net order → IsNext net order extent → dest ≡ order.dest → extent.node ≢ dest
 next-off net order extent dest waiting next at same =
     let node : extent.node ≡ order.dest = same ∙ at in
     let none : need_at order extent.node ≡ 0 = ap (need_at order) node ∙ waiting.dest in
     omega (arith, next.needed)
 
-module _ (laws : ListLaws) (net : Net) (dest : ℕ) (first now next : OrderView) (old tables new : TablesView) (before pushed more : ℕ) (extent : Extent) (going : Going net dest first now old tables before pushed) (is : IsNext net now extent) (at : next ≡ with_front now extent.node extent.to) (waiting : CanBeMet net next) (ready : AreReady net dest (table_at new)) (longer : IsLonger extent.node (extent.to - extent.from) tables new) (counted : more ≡ pushed + 3 * (extent.to - extent.from)) (dest-low : 1 ≤ dest) where
+-- what the next extent is to the tables and to the region
+pub record NextIs (net : Net) (region : AskRegion) (tables : TablesView) (extent : Extent) : Type 0 where
+  pub start : extent.from ≡ known_end (table_at tables extent.node)
+  pub some : known_end (table_at tables extent.node) < extent.to
+  pub within : extent.to ≤ slice_index region.need (extent.node - 1)
+  pub unfilled : IsUnfilled net region.dest extent.node extent.from extent.to tables
+
+pub next-is : (net : Net) (region : AskRegion) → RegionLaws net region → (first now : OrderView) (old tables : TablesView) (before pushed : ℕ) (extent : Extent) → Going net region.dest first now old tables before pushed → first.needs ≡ region.need → IsNext net now extent → NextIs net region tables extent
+next-is net region R first now old tables before pushed extent going needs next =
+    let needed : need_at now extent.node ≡ slice_index region.need (extent.node - 1) = ap (λ (xs : List ℕ). slice_index xs (extent.node - 1)) (going.needs ∙ needs) in
+    let within : extent.to ≤ slice_index region.need (extent.node - 1) = omega (arith, next.reach.need, needed) in
+    let start : extent.from ≡ known_end (table_at tables extent.node) = next.from ∙ going.agrees.ends extent.node next.node in
+    record {
+      start = start;
+      some = omega (arith, start, next.some);
+      within = within;
+      unfilled = record {
+        valid = R.valid;
+        node = next.node;
+        off = next-off net now extent region.dest going.waiting next (sym going.to);
+        nodes = going.agrees.nodes;
+        ready = going.ready;
+        start = start;
+        some = next.some;
+        extent = next-extent net R.extent now tables extent region.dest going.agrees next going.to;
+        limit = omega (arith, within, R.needs extent.node next.node);
+        room = omega (arith, start, next.reach.need, going.agrees.room extent.node next.node);
+      };
+    }
+
+module _ (laws : ListLaws) (net : Net) (dest : ℕ) (first now next : OrderView) (old tables new : TablesView) (before pushed more : ℕ) (extent : Extent) (going : Going net dest first now old tables before pushed) (is : IsNext net now extent) (at : next ≡ with_front now extent.node extent.to) (waiting : CanBeMet net next) (ready : AreReady net dest (table_at new)) (longer : IsLonger extent.node (extent.to - extent.from) tables new) (counted : more ≡ pushed + 3 * (extent.to - extent.from)) where
   start : extent.from ≡ known_end (table_at tables extent.node)
   start = is.from ∙ going.agrees.ends extent.node is.node
 
@@ -156,6 +189,7 @@ module _ (laws : ListLaws) (net : Net) (dest : ℕ) (first now next : OrderView)
 
   pub going-next : Going net dest first next old new before more
   going-next = record {
+    node = going.node;
     waiting = waiting;
     to = ap (λ (w : OrderView). w.dest) at ∙ going.to;
     needs = ap (λ (w : OrderView). w.needs) at ∙ going.needs;
@@ -166,7 +200,7 @@ module _ (laws : ListLaws) (net : Net) (dest : ℕ) (first now next : OrderView)
     dest_table =
         (let off : extent.node ≢ now.dest = next-off net now extent now.dest going.waiting is refl in
         let apart : dest ≡ extent.node → ⊥ = λ z. off (sym z ∙ sym going.to) in
-        let low : 1 ≤ dest = dest-low in kept dest low apart ∙ going.dest_table);
+        kept dest going.node.0 apart ∙ going.dest_table);
     count = omega (arith, going.count, left-less, counted);
   }
 

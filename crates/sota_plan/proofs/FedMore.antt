@@ -1,17 +1,17 @@
 -- Values that are fed to the summers of an arc.
-use Rattle.std.proofs.Common.{ℕ, zero, suc, ◌≡◌, ◌≢◌, ◌+◌, ◌-◌, ◌<◌, ◌≤◌, max, false, Option, None, Some, List, [], ◌∷◌, ◌++◌, length, get_or, refl, sym, ◌∙◌, ap, subst, arith, ⊎_elim}
+use Rattle.std.proofs.Common.{ℕ, zero, suc, ◌≡◌, ◌+◌, ◌-◌, ◌<◌, ◌≤◌, max, Option, None, Some, List, [], ◌∷◌, ◌++◌, length, get_or, refl, sym, ◌∙◌, ap, subst, arith, ⊎_elim}
 use Rattle.std.specs.Prelude.{Box}
 use Rattle.std.specs.declared.alloc.Global.{Global}
 use Rattle.std.proofs.lemmas.Bool.{cases_lt, le-ltb, ne_eqb, eq-eqb}
 use Rattle.std.proofs.Math.ListN.{set}
 use Rattle.std.proofs.lemmas.List.{length-append, get_or_append_left, get_or-append_right, get_or-set_same}
 use Rattle.sota_units.specs.Rounding.{ONE}
-use Rattle.sota_hist.specs.Time.{is_closed, least_tick}
+use Rattle.sota_hist.specs.Time.{least_tick}
 use Rattle.sota_network.specs.Network.{Net}
 use Rattle.sota_network.specs.Grid.{lo, hi}
 use Rattle.sota_network.specs.declared.network.Arc.{Arc}
 use Rattle.sota_kept.specs.Ticks.{least_to}
-use Rattle.sota_kept.specs.NodeTables.{NodeTable, IsReadyAt, lower_of, upper_of, lower_in, upper_in}
+use Rattle.sota_kept.specs.NodeTables.{NodeTable, IsReadyAt, lower_in, upper_in}
 use Rattle.sota_online.specs.Summer.{SummerState, kernel_of, fed_more}
 use Rattle.sota_fill.specs.declared.broad.Summers.{Summers}
 use Rattle.sota_fill.specs.Fed.{IsFed, SummersList, unboxed, summers_at}
@@ -90,14 +90,14 @@ base-low net dest i s is =
     ⊎_elim (λ (low : s.base ≤ least_to net dest i). low) (λ (low : s.front ≤ least_to net dest i). let same : s.base ≡ least_to net dest i = is.based low in omega arith) is.settled.kept.least
 
 -- ---- the summers of an arc, by its number
-pub summers-read : {Z : Type 0} (broad : SummersList Z) (e i : ℕ) (d : Option (Box (Summers Z) Global)) (two : Box (Summers Z) Global) → i ≡ e → i - 1 < length broad → get_or broad (i - 1) d ≡ Some two → summers_at broad e ≡ Some two.value
-summers-read {Z} broad e i d two same within is =
-    let at : get_or broad (e - 1) None ≡ Some two = ap (λ (n : ℕ). get_or broad (n - 1) None) (sym same) ∙ get_or-default broad (i - 1) None d within ∙ is in
+pub summers-read : {Z : Type 0} (broad : SummersList Z) (e i n : ℕ) (d : Option (Box (Summers Z) Global)) (two : Box (Summers Z) Global) → i ≡ e → (1 ≤ e) × (e ≤ n) → length broad ≡ n → get_or broad (i - 1) d ≡ Some two → summers_at broad e ≡ Some two.value
+summers-read {Z} broad e i n d two same number long is =
+    let at : get_or broad (e - 1) None ≡ Some two = ap (λ (n : ℕ). get_or broad (n - 1) None) (sym same) ∙ get_or-default broad (i - 1) None d (omega (arith, number.0, number.1)) ∙ is in
     ap unboxed at
 
-pub summers-set : {Z : Type 0} (broad : SummersList Z) (e i : ℕ) (two : Box (Summers Z) Global) → i ≡ e → i - 1 < length broad → summers_at (set broad (i - 1) (Some two)) e ≡ Some two.value
-summers-set {Z} broad e i two same within =
-    ap (λ (n : ℕ). summers_at (set broad (i - 1) (Some two)) n) (sym same) ∙ ap unboxed (get_or-set_same broad (i - 1) (Some two) None within)
+pub summers-set : {Z : Type 0} (broad : SummersList Z) (e i n : ℕ) (two : Box (Summers Z) Global) → i ≡ e → (1 ≤ e) × (e ≤ n) → length broad ≡ n → summers_at (set broad (i - 1) (Some two)) e ≡ Some two.value
+summers-set {Z} broad e i n two same number long =
+    ap (λ (k : ℕ). summers_at (set broad (k - 1) (Some two)) e) same ∙ ap unboxed (get_or-set_same broad (e - 1) (Some two) None (omega (arith, number.0, number.1)))
 
 -- what feeding both does
 pub summed-more : {Z : Type 0} (state : Z → SummerState) (net : Net) (dest : ℕ) (arc : Arc) (count total to base : ℕ) (two new : Summers Z) (tables : ℕ → NodeTable) → base ≡ least_to net dest arc.head

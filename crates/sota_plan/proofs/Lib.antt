@@ -1,3 +1,4 @@
+mod Extends
 pub mod Extended
 pub mod Extending
 pub mod FedMore

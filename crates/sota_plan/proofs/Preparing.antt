@@ -1,12 +1,11 @@
 -- What the first three steps of an ask leave, for the rooms and the order that follow.
-use Rattle.std.proofs.Common.{ℕ, zero, suc, ◌≡◌, ◌+◌, ◌-◌, ◌<◌, ◌≤◌, max, min, not, nat_lt, Bool, true, false, List, [], ◌∷◌, length, get_or, Option, None, Some, refl, sym, ◌∙◌, ap, arith, subst, ⊎_elim, ◌⊎◌}
+use Rattle.std.proofs.Common.{ℕ, zero, suc, ◌≡◌, ◌+◌, ◌-◌, ◌<◌, ◌≤◌, max, not, nat_lt, Bool, true, false, List, [], ◌∷◌, length, get_or, Option, None, Some, refl, sym, ◌∙◌, ap, arith, subst, ⊎_elim, ◌⊎◌}
 use Rattle.std.specs.List.{All, sum}
 use Rattle.std.proofs.lemmas.Bool.{le-leb, lt-ltb, cases_lt, cases_Bool, true≢false}
 use Rattle.std.proofs.lemmas.List.Sums.{sum_by-append}
 use Rattle.sota_network.specs.Network.{Net, IsNet, IsNode}
 use Rattle.sota_network.specs.Numbers.{listed}
 use Rattle.sota_network.specs.Region.{need, pairs_at}
-use Rattle.sota_network.specs.Walks.{IsLeastTime}
 use Rattle.sota_bounds.specs.Search.{time_at}
 use Rattle.sota_bounds.specs.Cells.{pairs_by_need}
 use Rattle.sota_bounds.specs.Faults.{TABLE_LIMIT}
@@ -14,9 +13,9 @@ use Rattle.sota_bounds.specs.Regions.{IsRegion}
 use Rattle.sota_bounds.specs.declared.ask.AskRegion.{AskRegion}
 use Rattle.sota_kept.specs.Laws.{ListLaws}
 use Rattle.sota_kept.specs.Ticks.{END_LIMIT, up_to, least_to}
-use Rattle.sota_kept.specs.NodeTables.{NodeTable, IsNodeTable, known_end, prepared_table}
+use Rattle.sota_kept.specs.NodeTables.{NodeTable, IsNodeTable, prepared_table}
 use Rattle.sota_kept.specs.States.{KEPT_LIMIT, is_dest, started_state, based_state, cells_kept}
-use Rattle.sota_kept.specs.TableLists.{TableLists, state_of, table_of}
+use Rattle.sota_kept.specs.TableLists.{state_of, table_of}
 use Rattle.sota_kept.specs.Asks.{IsPrepared}
 use Rattle.sota_order.specs.Orders.{OrderView, CanBeMet, HeadsSuffice}
 use Rattle.sota_tables.specs.Views.{TablesView, table_at, lists_of, row_needed}

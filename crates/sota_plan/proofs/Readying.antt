@@ -1,5 +1,5 @@
 -- What was made before an entry is filled is a run that is ready.
-use Rattle.std.proofs.Common.{ℕ, zero, suc, ◌≡◌, ◌-◌, ◌<◌, ◌≤◌, not, nat_lt, Bool, List, [], ◌∷◌, map, length, get_or, slice_get, Option, None, Some, refl, sym, ◌∙◌, ap, arith, subst}
+use Rattle.std.proofs.Common.{ℕ, zero, suc, ◌≡◌, ◌-◌, ◌≤◌, not, nat_lt, Bool, List, [], ◌∷◌, map, length, get_or, slice_get, Option, None, Some, sym, ◌∙◌, ap, arith, subst}
 use Rattle.std.proofs.lemmas.Option.{none-some, slice_get_within, get_or_from_slice_get}
 use Rattle.std.proofs.lemmas.List.{length-map}
 use Rattle.sota_units.specs.Limits.{BUDGET_LIMIT}
@@ -15,7 +15,7 @@ use Rattle.sota_kept.specs.TableLists.{TableLists, AreTables, IsSettled, state_o
 use Rattle.sota_kept.specs.Asks.{IsPrepared}
 use Rattle.sota_order.specs.Orders.{OrderView}
 use Rattle.sota_tables.specs.Views.{TablesView, table_at, lists_of, room_of}
-use Rattle.sota_plan.specs.Runs.{ArcSums, RunView, IsReady, first_sums, first_sums_by, most_fed}
+use Rattle.sota_plan.specs.Runs.{ArcSums, IsReady, first_sums, first_sums_by}
 use Rattle.sota_plan.proofs.Stepping.{TableIs, base-prepared}
 
 -- an item of a list that was mapped

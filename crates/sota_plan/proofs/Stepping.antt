@@ -14,7 +14,7 @@ use Rattle.sota_kept.specs.States.{KEPT_LIMIT, is_dest, started_state, based_sta
 use Rattle.sota_kept.specs.TableLists.{state_of, table_of}
 use Rattle.sota_kept.specs.Asks.{IsPrepared}
 use Rattle.sota_tables.specs.Views.{TablesView, HasNode, SameNodes, table_at, lists_of, row_needed}
-use Rattle.sota_plan.specs.Steps.{base_by, cells_of, too_many, based_table, StepsTaken}
+use Rattle.sota_plan.specs.Steps.{base_by, cells_of, too_many, StepsTaken}
 
 -- the laws that are used here
 abbrev pub TimesAre : Type 0

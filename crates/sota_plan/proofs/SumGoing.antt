@@ -1,33 +1,32 @@
 -- The summers of arcs, extent by extent.
-use Rattle.std.proofs.Common.{ℕ, zero, suc, ◌≡◌, ◌≢◌, ◌+◌, ◌-◌, ◌<◌, ◌≤◌, ◌⊎◌, inl, inr, ◌==◌, ◌&&◌, max, min, nat_lt, nat_le, Bool, true, false, List, [], ◌∷◌, map, length, get_or, slice_index, slice_get, if◌then◌else◌, Option, None, Some, refl, sym, ◌∙◌, ap, subst, arith, ⊎_elim}
+use Rattle.std.proofs.Common.{ℕ, zero, suc, ◌≡◌, ◌≢◌, ◌+◌, ◌-◌, ◌<◌, ◌≤◌, ◌⊎◌, inl, inr, ◌==◌, ◌&&◌, nat_lt, nat_le, Bool, true, false, List, [], ◌∷◌, map, length, get_or, if◌then◌else◌, Option, None, Some, refl, sym, ◌∙◌, ap, subst, arith, ⊎_elim}
 use Rattle.std.specs.Prelude.{Box}
 use Rattle.std.specs.declared.alloc.Global.{Global}
 use Rattle.std.specs.List.{All, Contains}
 use Rattle.std.proofs.lemmas.Bool.{cases_eq, cases_lt, cases_Bool, eqb-true, lt-ltb, le-ltb, lt-leb, le-leb, true≢false}
 use Rattle.std.proofs.lemmas.Option.{none-some}
-use Rattle.sota_units.specs.Limits.{BUDGET_LIMIT}
 use Rattle.sota_hist.specs.Time.{is_closed, least_tick, within}
-use Rattle.sota_network.specs.Network.{Net, IsNet, IsArc, IsNode, arc_at}
+use Rattle.sota_network.specs.Network.{Net, IsNode, arc_at}
 use Rattle.sota_network.specs.Numbers.{numbers}
 use Rattle.sota_network.specs.Grid.{lo, hi}
 use Rattle.sota_network.specs.Walks.{Walk, step}
 use Rattle.sota_network.specs.Reach.{reaches}
-use Rattle.sota_network.specs.Region.{NARROW, need, pairs_at}
+use Rattle.sota_network.specs.Region.{NARROW, pairs_at}
 use Rattle.sota_network.specs.declared.network.Arc.{Arc}
 use Rattle.sota_online.specs.Summer.{SummerState, kernel_of}
 use Rattle.sota_bounds.specs.Search.{time_at}
 use Rattle.sota_bounds.specs.Cells.{pairs_by_need}
 use Rattle.sota_bounds.specs.Regions.{IsRegion}
 use Rattle.sota_bounds.specs.declared.ask.AskRegion.{AskRegion}
-use Rattle.sota_kept.specs.Ticks.{END_LIMIT, up_to, ticks_to, least_to}
+use Rattle.sota_kept.specs.Ticks.{END_LIMIT, up_to, least_to}
 use Rattle.sota_kept.specs.NodeTables.{NodeTable, IsGrownAt, known_end}
 use Rattle.sota_tables.specs.Views.{TablesView, table_at}
 use Rattle.sota_fill.specs.declared.broad.Summers.{Summers}
-use Rattle.sota_fill.specs.Fed.{IsFed, AreFed, AllFed, SummersList, unboxed, summers_at}
+use Rattle.sota_fill.specs.Fed.{IsFed, AllFed, SummersList, unboxed, summers_at}
 use Rattle.sota_fill.specs.Fills.{IsLonger}
-use Rattle.sota_plan.specs.Runs.{ArcSums, RunView, states_of, sums_at, is_broad, most_fed, unfed, first_sums, values_fed, WasFed, HasSpent}
+use Rattle.sota_plan.specs.Runs.{ArcSums, states_of, is_broad, most_fed, unfed, first_sums, values_fed, HasSpent}
 use Rattle.sota_plan.specs.Summed.{IsSummed, SummedAs, CanFeed, AllCanFeed, values_below}
-use Rattle.sota_plan.specs.Extends.{ArcSummed, AllSummed, fed_so_far}
+use Rattle.sota_plan.proofs.Extends.{AllSummed, fed_so_far}
 use Rattle.sota_plan.specs.Laws.{TimeLaws}
 use Rattle.sota_plan.proofs.FedMore.{get_or-default}
 

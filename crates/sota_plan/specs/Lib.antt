@@ -1,4 +1,3 @@
-pub mod Extends
 pub mod Laws
 pub mod Runs
 pub mod Steps

@@ -7,7 +7,7 @@ use Rattle.sota_units.specs.Limits.{BUDGET_LIMIT}
 use Rattle.sota_hist.specs.Time.{within, least_tick}
 use Rattle.sota_network.specs.Network.{Net, IsNet, IsNode, arc_at}
 use Rattle.sota_network.specs.Grid.{lo, hi}
-use Rattle.sota_network.specs.Region.{NARROW, pairs_at, need}
+use Rattle.sota_network.specs.Region.{NARROW, pairs_at}
 use Rattle.sota_network.specs.declared.network.Arc.{Arc}
 use Rattle.sota_online.specs.Summer.{SummerState, kernel_of}
 use Rattle.sota_bounds.specs.Regions.{IsRegion}

@@ -1,5 +1,5 @@
 -- The first three steps of an ask, on tables.
-use Rattle.std.specs.Prelude.{ℕ, ◌≡◌, ◌-◌, not, nat_lt, Bool, List, Option, Some, length}
+use Rattle.std.specs.Prelude.{ℕ, ◌≡◌, ◌-◌, not, nat_lt, Bool, List, Option, length}
 use Rattle.std.specs.Prelude.{slice_index, if◌then◌else◌}
 use Rattle.std.specs.List.{sum}
 use Rattle.sota_network.specs.Numbers.{listed}

@@ -9,7 +9,7 @@ use crate::feeding::feed_extent;
 use crate::laws::region_laws;
 use crate::run::Run;
 use sota_bounds::AskRegion;
-use sota_fill::{Summers, fill_extent};
+use sota_fill::{Part, Summers, Target, fill_extent};
 use sota_kept::kept::{asks_end, tables_stay_right};
 use sota_network::Network;
 use sota_online::Summer;
@@ -52,28 +52,23 @@ fn extend_all<Z: Summer, M: Ledger, P: Ledger>(
     region_laws();
     tables_stay_right();
     views_are_lists();
-    let dest = region.dest;
-    let least = region.least.as_slice();
+    let target = Target {
+        network,
+        dest: region.dest,
+        least: region.least.as_slice(),
+    };
+    let mut part = Part::new();
     while let Some(extent) = order.next_extent(network) {
-        feed_extent(
-            network,
-            tables,
-            broad,
-            least,
-            dest,
-            extent.node,
-            extent.to,
-            products,
-        );
+        let (node, to) = (extent.node, extent.to);
+        feed_extent(&target, tables, broad, node, to, products);
         fill_extent(
             tables,
-            network,
+            &target,
             broad,
-            least,
-            dest,
-            extent.node,
+            node,
             extent.from,
-            extent.to,
+            to,
+            &mut part,
             pushes,
         );
     }

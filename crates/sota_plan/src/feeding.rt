@@ -9,15 +9,15 @@ ghost use Rattle.sota_kept.specs.Ticks.{END_LIMIT};
 ghost use Rattle.sota_kept.specs.NodeTables.{AreReady, IsExtent, known_end};
 ghost use Rattle.sota_kept.specs.NodeTables.{lower_in, upper_in};
 ghost use Rattle.sota_tables.specs.Views.{HasNode, table_at};
-ghost use Rattle.sota_fill.specs.Fed.{IsFed, AreLeastTimes, summers_at};
+ghost use Rattle.sota_fill.specs.Fed.{IsFed, IsTarget, summers_at};
 ghost use Rattle.sota_fill.specs.Fills.{ReadsAs};
 ghost use Rattle.sota_fill.specs.declared.broad.Summers.{Summers};
 ghost use Rattle.sota_plan.specs.Summed.{CanFeed, AllCanFeed, SummedAs, values_below};
 
 use sota_fill::laws::extents_read_the_grid;
-use sota_fill::{Summers, base_of};
+use sota_fill::{Summers, Target};
+use sota_network::Arc;
 use sota_network::laws::numbers_of_arcs;
-use sota_network::{Arc, Network};
 use sota_online::Summer;
 use sota_tables::Tables;
 use sota_units::{ArcId, Grain, NodeId, Steps};
@@ -133,80 +133,80 @@ fn feed_both<Z: Summer, M: Ledger>(
 /// Feeds the two summers of an arc what the budgets of its tail below `to` rest on, where it has
 /// summers.
 fn feed_arc<Z: Summer, M: Ledger>(
-    network: &Network,
+    target: &Target,
     tables: &Tables,
     broad: &mut [Option<Box<Summers<Z>>>],
-    least: &[Option<u64>],
-    dest: NodeId,
     number: ArcId,
     to: u32,
     products: &mut Steps<M>,
 )
-    requires number { (1 ≤ number) × (number ≤ length network.now.arcs) }
-    requires nodes { length tables.now.fronts ≡ network.now.nodes }
-    requires broad { length broad.old ≡ length network.now.arcs }
-    requires least { AreLeastTimes network.now dest least.now }
-    requires least_nodes { length least.now ≡ network.now.nodes }
-    requires ready { AreReady network.now dest (table_at tables.now) }
-    requires reads { (arc : Arc) → arc_at network.now number ≡ Some arc
-        → ReadsAs network.now dest arc to (table_at tables.now) }
-    requires known { (arc : Arc) → arc_at network.now number ≡ Some arc
-        → is_closed arc.time ≡ false → arc.head ≢ dest
+    requires number { (1 ≤ number) × (number ≤ length target.now.network.now.arcs) }
+    requires nodes { length tables.now.fronts ≡ target.now.network.now.nodes }
+    requires broad { length broad.old ≡ length target.now.network.now.arcs }
+    requires target { IsTarget target.now }
+    requires ready { AreReady target.now.network.now target.now.dest (table_at tables.now) }
+    requires reads { (arc : Arc) → arc_at target.now.network.now number ≡ Some arc
+        → ReadsAs target.now.network.now target.now.dest arc to (table_at tables.now) }
+    requires known { (arc : Arc) → arc_at target.now.network.now number ≡ Some arc
+        → is_closed arc.time ≡ false → arc.head ≢ target.now.dest
         → to ≤ known_end (table_at tables.now arc.head) + least_tick arc.time }
-    requires can { (arc : Arc) (two : Summers Z) → arc_at network.now number ≡ Some arc
-        → summers_at broad.old number ≡ Some two → CanFeed Z.state network.now dest arc to two }
-    ensures fed { (arc : Arc) (count total : ℕ) → arc_at network.now number ≡ Some arc
-        → SummedAs Z.state network.now dest arc count total (summers_at broad.old number)
-        → count ≤ values_below network.now dest arc to
-        → SummedAs Z.state network.now dest arc (values_below network.now dest arc to) total
+    requires can { (arc : Arc) (two : Summers Z) → arc_at target.now.network.now number ≡ Some arc
+        → summers_at broad.old number ≡ Some two
+        → CanFeed Z.state target.now.network.now target.now.dest arc to two }
+    ensures fed { (arc : Arc) (count total : ℕ) → arc_at target.now.network.now number ≡ Some arc
+        → SummedAs Z.state target.now.network.now target.now.dest arc count total
+        (summers_at broad.old number)
+        → count ≤ values_below target.now.network.now target.now.dest arc to
+        → SummedAs Z.state target.now.network.now target.now.dest arc
+        (values_below target.now.network.now target.now.dest arc to) total
         (summers_at broad.new number) }
     ensures none { summers_at broad.old number ≡ None → summers_at broad.new number ≡ None }
     ensures others { (e : ℕ) → 1 ≤ e → e ≢ number
         → summers_at broad.new e ≡ summers_at broad.old e }
     ensures length { length broad.new ≡ length broad.old }
 {
-    let arc = network.numbered(number);
+    let arc = target.network.numbered(number);
     if let Some(two) = &mut broad[number.get() as usize - 1] {
-        let base = base_of(least[arc.head.get() as usize - 1]);
-        feed_both(tables, dest, arc, two, base, to, products);
+        let base = target.base(arc.head);
+        feed_both(tables, target.dest, arc, two, base, to, products);
     }
 }
 
 /// Feeds the summers of all arcs that leave a node what its budgets below `to` rest on.
 pub(crate) fn feed_extent<Z: Summer, M: Ledger>(
-    network: &Network,
+    target: &Target,
     tables: &Tables,
     broad: &mut [Option<Box<Summers<Z>>>],
-    least: &[Option<u64>],
-    dest: NodeId,
     node: NodeId,
     to: u32,
     products: &mut Steps<M>,
 )
-    requires valid { IsNet network.now }
-    requires node { IsNode network.now node }
-    requires nodes { length tables.now.fronts ≡ network.now.nodes }
-    requires broad { length broad.old ≡ length network.now.arcs }
-    requires least { AreLeastTimes network.now dest least.now }
-    requires least_nodes { length least.now ≡ network.now.nodes }
-    requires ready { AreReady network.now dest (table_at tables.now) }
-    requires extent { IsExtent network.now dest (table_at tables.now) node to }
-    requires can { AllCanFeed Z.state network.now dest node to broad.old }
-    ensures fed { (e : ℕ) (arc : Arc) (count total : ℕ) → arc_at network.now e ≡ Some arc
-        → arc.tail ≡ node
-        → SummedAs Z.state network.now dest arc count total (summers_at broad.old e)
-        → count ≤ values_below network.now dest arc to
-        → SummedAs Z.state network.now dest arc (values_below network.now dest arc to) total
+    requires valid { IsNet target.now.network.now }
+    requires node { IsNode target.now.network.now node }
+    requires nodes { length tables.now.fronts ≡ target.now.network.now.nodes }
+    requires broad { length broad.old ≡ length target.now.network.now.arcs }
+    requires target { IsTarget target.now }
+    requires ready { AreReady target.now.network.now target.now.dest (table_at tables.now) }
+    requires extent { IsExtent target.now.network.now target.now.dest (table_at tables.now) node
+        to }
+    requires can { AllCanFeed Z.state target.now.network.now target.now.dest node to broad.old }
+    ensures fed { (e : ℕ) (arc : Arc) (count total : ℕ)
+        → arc_at target.now.network.now e ≡ Some arc → arc.tail ≡ node
+        → SummedAs Z.state target.now.network.now target.now.dest arc count total
+        (summers_at broad.old e)
+        → count ≤ values_below target.now.network.now target.now.dest arc to
+        → SummedAs Z.state target.now.network.now target.now.dest arc
+        (values_below target.now.network.now target.now.dest arc to) total
         (summers_at broad.new e) }
-    ensures others { (e : ℕ) (arc : Arc) → arc_at network.now e ≡ Some arc → arc.tail ≢ node
-        → summers_at broad.new e ≡ summers_at broad.old e }
+    ensures others { (e : ℕ) (arc : Arc) → arc_at target.now.network.now e ≡ Some arc
+        → arc.tail ≢ node → summers_at broad.new e ≡ summers_at broad.old e }
     ensures none { (e : ℕ) → 1 ≤ e → summers_at broad.old e ≡ None
         → summers_at broad.new e ≡ None }
     ensures length { length broad.new ≡ length broad.old }
 {
     numbers_of_arcs();
     extents_read_the_grid();
-    for number in network.leaving(node) {
-        feed_arc(network, tables, broad, least, dest, *number, to, products);
+    for number in target.network.leaving(node) {
+        feed_arc(target, tables, broad, *number, to, products);
     }
 }

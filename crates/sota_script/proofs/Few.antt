@@ -1,12 +1,12 @@
 -- An edit has no more pairs than its line has bytes: each stands in a field of its own.
-use Rattle.std.proofs.Common.{◌≡◌, ℕ, ◌+◌, ◌≤◌, ◌<◌, ◌^◌, List, [], ◌∷◌, true, false, not, cond, length, map, filter, Option, Some, None, option_map, Result, Ok, Err, codes, refl, sym, ap, subst, arith}
+use Rattle.std.proofs.Common.{◌≡◌, ℕ, ◌+◌, ◌≤◌, ◌<◌, ◌^◌, List, [], ◌∷◌, true, false, not, cond, length, map, filter, Bool, Option, Some, None, option_map, Result, Ok, Err, codes, refl, sym, ap, subst, arith}
 use Rattle.std.specs.List.{slice_split, onto_first}
 use Rattle.std.specs.Str.{bytes_eq}
 use Rattle.std.proofs.lemmas.List.{length-map}
 use Rattle.sota_text.specs.Text.{is_blank, is_empty, fields_of}
 use Rattle.sota_text.specs.Words.{three, four}
 use Rattle.sota_units.specs.Memory.{◌>>=◌, or_fault}
-use Rattle.sota_script.specs.Lines.{all_there, pair_of, pairs_of, parse_number, parse_ask, parse_name, parse_edit, parse_close, parse_ask_line, parse_policy, parse_command}
+use Rattle.sota_script.specs.Lines.{all_there, pair_of, pairs_of, parse_number, parse_ask, parse_name, parse_edit, parse_close, parse_ask_line, parse_policy, parse_route, parse_command, numbers_of}
 use Rattle.sota_script.specs.Few.{HasFewPairs}
 use Rattle.sota_script.specs.declared.command.Ask3.{Ask3}
 use Rattle.sota_script.specs.declared.command.Command.{Command}
@@ -96,18 +96,29 @@ policy_few words command e =
       | Some word ↦ λ e. policy_by (parse_ask word.0 word.1 word.2) (parse_name word.3) command e
     ] e
 
+route_by : (dest budget : Result ℕ LineFault) (arcs : Option (List ℕ)) (command : Command) → (dest >>= λ dest. budget >>= λ budget. or_fault Number arcs >>= λ arcs. Ok (commands.Route dest budget arcs)) ≡ Ok command → HasFewPairs command
+route_by (Err fault) budget arcs command e = absurd (cc)
+route_by (Ok dest) (Err fault) arcs command e = absurd (cc)
+route_by (Ok dest) (Ok budget) None command e = absurd (cc)
+route_by (Ok dest) (Ok budget) (Some arcs) command e = let is : commands.Route dest budget arcs ≡ command = cc in subst (λ (command : Command). HasFewPairs command) is tt
+
+route_few : (words : List (List ℕ)) (command : Command) → parse_route words ≡ Ok command → HasFewPairs command
+route_few [] command e = absurd (cc)
+route_few (dest ∷ []) command e = absurd (cc)
+route_few (dest ∷ budget ∷ []) command e = absurd (cc)
+route_few (dest ∷ budget ∷ first ∷ more) command e = route_by (parse_number dest) (parse_number budget) (numbers_of (first ∷ more)) command e
+
+-- one of two commands, by a test
+by_word : (test : Bool) (one other : Result Command LineFault) (command : Command) → (one ≡ Ok command → HasFewPairs command) → (other ≡ Ok command → HasFewPairs command)
+    → cond test one other ≡ Ok command → HasFewPairs command
+by_word true one other command here there e = here e
+by_word false one other command here there e = there e
+
 pub command_few : (first : List ℕ) (words : List (List ℕ)) (command : Command) → length words < 2 ^ 32 → parse_command first words ≡ Ok command → HasFewPairs command
-command_few first words command few e =
-    elim (bytes_eq first (codes "edit")) as (λ b. cond b (parse_edit words) (cond (bytes_eq first (codes "close")) (parse_close words) (cond (bytes_eq first (codes "ask")) (parse_ask_line words) (cond (bytes_eq first (codes "policy")) (parse_policy words) (Err Word)))) ≡ Ok command → HasFewPairs command) [
-      | true ↦ λ e. edit_few words command few e
-      | false ↦ λ e. elim (bytes_eq first (codes "close")) as (λ b. cond b (parse_close words) (cond (bytes_eq first (codes "ask")) (parse_ask_line words) (cond (bytes_eq first (codes "policy")) (parse_policy words) (Err Word))) ≡ Ok command → HasFewPairs command) [
-        | true ↦ λ e. close_few words command e
-        | false ↦ λ e. elim (bytes_eq first (codes "ask")) as (λ b. cond b (parse_ask_line words) (cond (bytes_eq first (codes "policy")) (parse_policy words) (Err Word)) ≡ Ok command → HasFewPairs command) [
-          | true ↦ λ e. ask_few words command e
-          | false ↦ λ e. elim (bytes_eq first (codes "policy")) as (λ b. cond b (parse_policy words) (Err Word) ≡ Ok command → HasFewPairs command) [
-            | true ↦ λ e. policy_few words command e
-            | false ↦ λ e. absurd (cc)
-          ] e
-        ] e
-      ] e
-    ] e
+command_few first words command few =
+    by_word (bytes_eq first (codes "edit")) (parse_edit words) _ command (edit_few words command few)
+    (by_word (bytes_eq first (codes "close")) (parse_close words) _ command (close_few words command)
+    (by_word (bytes_eq first (codes "ask")) (parse_ask_line words) _ command (ask_few words command)
+    (by_word (bytes_eq first (codes "policy")) (parse_policy words) _ command (policy_few words command)
+    (by_word (bytes_eq first (codes "route")) (parse_route words) (Err Word) command (route_few words command)
+    (λ e. absurd (cc))))))

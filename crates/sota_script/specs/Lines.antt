@@ -47,6 +47,9 @@ pub record IsPair (field : List ℕ) (pair : ℕ × ℕ) : Type 0 where
 abbrev pub pairs_of : List (List ℕ) → Option (List (ℕ × ℕ))
 pairs_of fields = all_there (map pair_of fields)
 
+abbrev pub numbers_of : List (List ℕ) → Option (List ℕ)
+numbers_of fields = all_there (map number_of fields)
+
 -- 'O D T'
 abbrev pub parse_ask : List ℕ → List ℕ → List ℕ → Result Ask3 LineFault
 parse_ask origin dest budget = do
@@ -84,6 +87,15 @@ parse_edit (arc ∷ first ∷ more) = do
   Ok (commands.Edit number pairs)
 parse_edit _ = Err Count
 
+-- 'D T ARC ..' after 'route', with one arc or more
+abbrev pub parse_route : List (List ℕ) → Result Command LineFault
+parse_route (dest ∷ budget ∷ first ∷ more) = do
+  dest ← parse_number dest
+  budget ← parse_number budget
+  arcs ← or_fault Number (numbers_of (first ∷ more))
+  Ok (commands.Route dest budget arcs)
+parse_route _ = Err Count
+
 -- 'ARC' after 'close'
 abbrev pub parse_close : List (List ℕ) → Result Command LineFault
 parse_close (arc ∷ []) = do
@@ -98,7 +110,8 @@ parse_command first words =
     else (if bytes_eq first (codes "close") then parse_close words
     else (if bytes_eq first (codes "ask") then parse_ask_line words
     else (if bytes_eq first (codes "policy") then parse_policy words
-    else Err Word)))
+    else (if bytes_eq first (codes "route") then parse_route words
+    else Err Word))))
 
 -- ---- lines
 

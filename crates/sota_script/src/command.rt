@@ -29,4 +29,11 @@ pub enum Command {
         ask: Ask3,
         name: FileName,
     },
+    /// The chance of keeping to a route to a destination within a budget in ticks is to be
+    /// bracketed.
+    Route {
+        dest: u32,
+        budget: u32,
+        arcs: Items<ArcId>,
+    },
 }

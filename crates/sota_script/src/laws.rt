@@ -3,7 +3,7 @@
 ghost use Rattle.std.specs.Prelude.{ℕ, ◌≡◌, List, [], ◌∷◌, codes, Option, Some, None, Ok, Err};
 ghost use Rattle.sota_script.specs.Lines.{parse_line, pair_of, IsPair};
 ghost use Rattle.sota_script.specs.declared.command.Command.TheVariants.{Edit, Close, Ask};
-ghost use Rattle.sota_script.specs.declared.command.Command.TheVariants.{Policy};
+ghost use Rattle.sota_script.specs.declared.command.Command.TheVariants.{Policy, Route};
 ghost use Rattle.sota_script.specs.declared.fault.LineFault.TheVariants.{Word, Count, Number};
 
 /// A field is a pair exactly where it is the texts of two numbers with a colon between, however it
@@ -22,6 +22,7 @@ pub fn worked_lines()
     ensures policy { parse_line (codes "policy 1 3 2 p")
         ≡ Ok (Some (Policy (record { origin = 1; dest = 3; budget = 2 }) (codes "p"))) }
     ensures close { parse_line (codes "close 3") ≡ Ok (Some (Close 3)) }
+    ensures route { parse_line (codes "route 3 9 1 2") ≡ Ok (Some (Route 3 9 (1 ∷ 2 ∷ []))) }
     ensures word { parse_line (codes "go") ≡ Err Word }
     ensures count { (parse_line (codes "ask 1 3") ≡ Err Count)
         × (parse_line (codes "edit x") ≡ Err Count) }

@@ -6,8 +6,8 @@ ghost use Rattle.sota_text.specs.Spans.{bytes_of, AreWithin, IsWithin};
 ghost use Rattle.sota_script.specs.Words.{is_shortage};
 ghost use Rattle.sota_script.specs.Lines.{parse_line, parse_command, begins_comment};
 ghost use Rattle.sota_script.specs.Lines.{parse_edit, parse_close, parse_ask_line, parse_policy};
-ghost use Rattle.sota_script.specs.Lines.{parse_ask, parse_number, parse_name};
-ghost use Rattle.sota_script.specs.Lines.{pairs_of, pair_of, is_colon};
+ghost use Rattle.sota_script.specs.Lines.{parse_route, parse_ask, parse_number, parse_name};
+ghost use Rattle.sota_script.specs.Lines.{pairs_of, pair_of, is_colon, numbers_of};
 ghost use Rattle.sota_script.specs.Few.{HasFewPairs};
 ghost use Rattle.sota_script.specs.declared.fault.LineFault.TheVariants.{Number};
 
@@ -19,8 +19,9 @@ use std::alloc::Global;
 /// The command of a line, which stands without what ends it. None exactly where the line is blank
 /// or a comment, whose first field begins with `#`.
 ///
-/// Commands are `edit ARC T:M ..`, with one pair or more, `close ARC`, `ask O D T` and
-/// `policy O D T NAME`. Fields are parted by spaces and tabs.
+/// Commands are `edit ARC T:M ..`, with one pair or more, `close ARC`, `ask O D T`,
+/// `policy O D T NAME` and `route D T ARC ..`, with one arc or more. Fields are parted by spaces
+/// and tabs.
 pub fn read_line(alloc: Global, line: &[u8]) -> Result<Option<Command>, LineFault>
     requires { length line.now < 2 ^ 32 }
     ensures meaning { Answers is_shortage result (parse_line line.now) }
@@ -63,6 +64,8 @@ fn read_command(
         read_ask_line(line, fields)
     } else if first == b"policy".as_slice() {
         read_policy(alloc, line, fields)
+    } else if first == b"route".as_slice() {
+        read_route(alloc, line, fields)
     } else {
         Err(LineFault::Word)
     }
@@ -122,6 +125,43 @@ fn find_colon(field: &[u8]) -> Option<usize>
     ensures value { result ≡ position is_colon field.now }
 {
     field.iter().position(|byte| *byte == b':')
+}
+
+/// The route of the fields after a `route`.
+fn read_route(alloc: Global, line: &[u8], mut fields: Fields<'_>) -> Result<Command, LineFault>
+    requires { AreWithin line.now fields }
+    ensures { Answers is_shortage result (parse_route (map (bytes_of line.now) fields.entry)) }
+{
+    let dest = fields.next().ok_or(LineFault::Count)?;
+    let budget = fields.next().ok_or(LineFault::Count)?;
+    let arc = fields.next().ok_or(LineFault::Count)?;
+    Ok(Command::Route {
+        dest: read_number(&line[dest.from..dest.to])?,
+        budget: read_number(&line[budget.from..budget.to])?,
+        arcs: read_arcs(alloc, line, arc, fields)?,
+    })
+}
+
+/// The arcs of a field and of those after it.
+fn read_arcs(
+    alloc: Global,
+    line: &[u8],
+    first: Span,
+    fields: Fields<'_>,
+) -> Result<Items<ArcId>, LineFault>
+    requires first { IsWithin line.now first }
+    requires fields { AreWithin line.now fields }
+    ensures { Answers is_shortage result
+        (or_fault Number (numbers_of (map (bytes_of line.now) (first ∷ fields.entry)))) }
+{
+    let mut arcs = Vec::new(alloc);
+    arcs.push(ArcId(read_number(&line[first.from..first.to])?))
+        .map_err(NoMemory::from)?;
+    for field in fields {
+        arcs.push(ArcId(read_number(&line[field.from..field.to])?))
+            .map_err(NoMemory::from)?;
+    }
+    Ok(Items::new(arcs))
 }
 
 /// The arc of the fields after a `close`.

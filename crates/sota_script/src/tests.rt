@@ -19,6 +19,9 @@ fn refused_lines(rt: HostRuntime) -> Result<(), Fail> {
         ("ask 1 x 3 4", LineFault::Count),
         ("policy 1 2 3", LineFault::Count),
         ("policy 1 x 3 p q", LineFault::Count),
+        ("route 3 9", LineFault::Count),
+        ("routes 3 9 1", LineFault::Word),
+        ("route 3 9 1 x", LineFault::Number),
         ("close 1:1", LineFault::Number),
         ("edit x 1:1", LineFault::Number),
         ("edit 2 1-4", LineFault::Number),
@@ -58,7 +61,8 @@ fn fault_of(alloc: Global, line: &[u8]) -> Option<LineFault> {
 fn is_ask(command: &Command, want: &Ask3) -> bool {
     match command {
         Command::Ask(ask) => ask == want,
-        Command::Edit { .. } | Command::Close { .. } | Command::Policy { .. } => false,
+        Command::Edit { .. } | Command::Close { .. } => false,
+        Command::Policy { .. } | Command::Route { .. } => false,
     }
 }
 
@@ -66,7 +70,8 @@ fn is_ask(command: &Command, want: &Ask3) -> bool {
 fn is_policy(command: &Command, want: &Ask3, want_name: &str) -> bool {
     match command {
         Command::Policy { ask, name } => ask == want && name.as_str() == want_name,
-        Command::Edit { .. } | Command::Close { .. } | Command::Ask(_) => false,
+        Command::Edit { .. } | Command::Close { .. } => false,
+        Command::Ask(_) | Command::Route { .. } => false,
     }
 }
 
@@ -77,7 +82,19 @@ fn is_edit(command: Command, want: ArcId, want_pairs: &[(Tick, Mass)]) -> bool {
             let pairs = Items::new(pairs.into_vec());
             arc == want && pairs.as_slice() == want_pairs
         }
-        Command::Close { .. } | Command::Ask(_) | Command::Policy { .. } => false,
+        Command::Close { .. } | Command::Ask(_) => false,
+        Command::Policy { .. } | Command::Route { .. } => false,
+    }
+}
+
+/// Whether a command is this route to a destination within a budget.
+fn is_route(command: &Command, want_dest: u32, want_budget: u32, route: &[ArcId]) -> bool {
+    match command {
+        Command::Route { dest, budget, arcs } => {
+            *dest == want_dest && *budget == want_budget && arcs.as_slice() == route
+        }
+        Command::Edit { .. } | Command::Close { .. } => false,
+        Command::Ask(_) | Command::Policy { .. } => false,
     }
 }
 
@@ -104,5 +121,7 @@ fn commands(rt: HostRuntime) -> Result<(), Fail> {
     assert!(rt; is_edit(command, ArcId(3), &pairs));
     let command = read_line(rt.alloc(), b"close\t07 ")?.ok_or("a close")?;
     assert!(rt; matches!(&command, Command::Close { arc: ArcId(7) }));
+    let command = read_line(rt.alloc(), b"route 3 65536\t1 02 ")?.ok_or("a route")?;
+    assert!(rt; is_route(&command, 3, 65536, &[ArcId(1), ArcId(2)]));
     Ok(())
 }

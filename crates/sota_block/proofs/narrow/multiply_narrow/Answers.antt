@@ -1,24 +1,22 @@
-use Rattle.std.proofs.Common.{◌≡◌, ℕ, ◌<◌, ◌≤◌, List, length, slice_index, sum, ap, sym, subst, ◌∙◌, arith}
-use Rattle.sota_units.specs.Rounding.{SCALE_LIMIT}
-use Rattle.sota_block.proofs.Meetings.{halves_coefficient, halves_fit}
+use Rattle.std.proofs.Common.{ℕ, ◌+◌, ◌-◌, ◌*◌, length, ◌∙◌, arith}
+use Rattle.sota_block.specs.Meeting.{crossed_by}
+use Rattle.sota_block.proofs.Stretch.{stretch_all}
+use Rattle.sota_block.proofs.Meetings.{zeros_there, zeros_after, narrow_is}
 use Rattle.sota_block.proofs.narrow.multiply_narrow.Goals as goal
 
-pub add_block-requires-clause-low_fits : goal.add_block-requires-clause-low_fits
-add_block-requires-clause-low_fits c = λ k below.
-    let few : sum c.narrow_masses.new.into ≤ SCALE_LIMIT = subst (λ (xs : List ℕ). sum xs ≤ SCALE_LIMIT) (sym c.narrow_masses.ensures) c.requires.masses in
-    let small : (a : ℕ) → slice_index c.narrow_values.new.into a < 18446744073709551616 = λ a. subst (λ (xs : List ℕ). slice_index xs a < 18446744073709551616) (sym c.narrow_values.ensures) (c.requires.small a) in
-    omega (arith, (halves_fit c.narrow_masses.new.into c.narrow_values.new.into k few small).0, c.clear.ensures k (omega arith))
+pub pad_narrow-requires-clause-zeros : goal.pad_narrow-requires-clause-zeros
+pad_narrow-requires-clause-zeros c = zeros_there 48
 
-pub add_block-requires-clause-high_fits : goal.add_block-requires-clause-high_fits
-add_block-requires-clause-high_fits c = λ k below.
-    let few : sum c.narrow_masses.new.into ≤ SCALE_LIMIT = subst (λ (xs : List ℕ). sum xs ≤ SCALE_LIMIT) (sym c.narrow_masses.ensures) c.requires.masses in
-    let small : (a : ℕ) → slice_index c.narrow_values.new.into a < 18446744073709551616 = λ a. subst (λ (xs : List ℕ). slice_index xs a < 18446744073709551616) (sym c.narrow_values.ensures) (c.requires.small a) in
-    omega (arith, (halves_fit c.narrow_masses.new.into c.narrow_values.new.into k few small).1, c.clear-2.ensures k (omega arith))
+pub eight_sums-requires-clause-zeros_after : goal.eight_sums-requires-clause-zeros_after
+eight_sums-requires-clause-zeros_after c = λ i from. zeros_after c.pad_narrow.new.padded (length c.args.values.now) i (omega arith) c.pad_narrow.ensures.after from
 
 pub returns : goal.returns
 returns c = λ k below.
-    let long : (xs ys : List ℕ) → xs ≡ ys → length xs ≡ length ys = λ xs ys e. ap (λ (zs : List ℕ). length zs) e in
-    let masses : length c.narrow_masses.new.into ≡ 32 = long _ _ c.narrow_masses.ensures ∙ c.requires.length in
-    let narrow : length c.narrow_values.new.into ≡ 32 = long _ _ c.narrow_values.ensures ∙ c.requires.same_length in
-    c.join.ensures k (omega arith) ∙ halves_coefficient c.args.kernel.now c.args.values.now c.narrow_masses.new.into c.narrow_values.new.into k _ _ _ _ (omega arith) c.narrow_masses.ensures c.narrow_values.ensures
-    (c.clear.ensures k (omega arith)) (c.clear-2.ensures k (omega arith)) (c.add_block.ensures.low k (omega arith)) (c.add_block.ensures.high k (omega arith))
+    c.loop-part.invariant k (omega arith)
+    ∙ narrow_is c.args.kernel.now c.narrow_masses.new.into c.args.values.now c.pad_narrow.new.padded k c.narrow_masses.ensures (omega arith) (omega arith) c.pad_narrow.ensures.before c.pad_narrow.ensures.inside c.pad_narrow.ensures.after
+
+pub loop-part-preserved : goal.loop-part-preserved
+loop-part-preserved c = λ k below.
+    let at : ℕ = c.loop-part.part * 8 in
+    stretch_all at (at + 8 - at) c.loop-part.into c.eight_sums.new.into (omega arith) c.eight_sums.auto.into (λ i. crossed_by (λ v. v) c.narrow_masses.new.into c.pad_narrow.new.padded (i + 8))
+    (λ j early. c.loop-part.invariant j (omega arith)) (λ j inside. c.eight_sums.ensures j (omega arith)) k (omega arith)

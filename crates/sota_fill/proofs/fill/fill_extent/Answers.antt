@@ -1,5 +1,4 @@
-use Rattle.std.proofs.Common.{ℕ, ◌≡◌, ◌+◌, ◌-◌, ◌<◌, ◌≤◌, length, take, subst, arith}
-use Rattle.std.proofs.lemmas.List.{length-take}
+use Rattle.std.proofs.Common.{ℕ, ◌≡◌, ◌+◌, ◌-◌, ◌<◌, ◌≤◌, subst, arith}
 use Rattle.sota_fill.specs.Fills.{IsLonger, IsUnfilled}
 use Rattle.sota_fill.proofs.Pushing.{longer-more, unfilled-left}
 use Rattle.sota_fill.proofs.Summed.{all-fed-less}
@@ -7,27 +6,24 @@ use Rattle.sota_fill.proofs.fill.fill_extent.Goals as goal
 
 pub fill_part-requires-clause-unfilled : goal.fill_part-requires-clause-unfilled
 fill_part-requires-clause-unfilled g c =
-    let long : length (take c.min-count.result c.loop-budget.sums) ≡ c.min-count.result = simp length-take (omega (arith, c.min-count.ensures)) in
     let place : c.args.from + (c.loop-budget.budget - c.args.from) ≡ c.loop-budget.budget = omega (arith, c.loop-budget.invariant.low) in
-    let to : ℕ = c.loop-budget.budget + length (take c.min-count.result c.loop-budget.sums) in
-    let within : to ≤ c.args.to = omega (arith, long, c.min-count.ensures) in
-    let some : c.args.from + (c.loop-budget.budget - c.args.from) < to = omega (arith, long, place, c.min-count.ensures) in
-    subst (λ (n : ℕ). IsUnfilled c.args.network.now c.args.dest c.args.node n to c.loop-budget.tables) place
-    (unfilled-left c.args.network.now (c.filling_laws.ensures c.args.network.now c.requires.unfilled.valid) c.args.dest c.args.node c.args.from c.args.to (c.loop-budget.budget - c.args.from) to c.args.tables.now c.loop-budget.tables
+    let to : ℕ = c.loop-budget.budget + c.min-count.result in
+    let within : to ≤ c.args.to = omega (arith, c.min-count.ensures) in
+    let some : c.args.from + (c.loop-budget.budget - c.args.from) < to = omega (arith, place, c.min-count.ensures) in
+    subst (λ (n : ℕ). IsUnfilled c.args.target.now.network.now c.args.target.now.dest c.args.node n to c.loop-budget.tables) place
+    (unfilled-left c.args.target.now.network.now (c.filling_laws.ensures c.args.target.now.network.now c.requires.unfilled.valid) c.args.target.now.dest c.args.node c.args.from c.args.to (c.loop-budget.budget - c.args.from) to c.args.tables.now c.loop-budget.tables
     c.requires.unfilled c.loop-budget.invariant.longer c.loop-budget.invariant.ready some within)
 
 pub fill_part-requires-clause-fed : goal.fill_part-requires-clause-fed
 fill_part-requires-clause-fed g c =
-    let long : length (take c.min-count.result c.loop-budget.sums) ≡ c.min-count.result = simp length-take (omega (arith, c.min-count.ensures)) in
-    let within : c.loop-budget.budget + length (take c.min-count.result c.loop-budget.sums) ≤ c.args.to = omega (arith, long, c.min-count.ensures) in
-    all-fed-less g.Z.Summer.state c.args.network.now c.args.dest c.args.node c.args.to (c.loop-budget.budget + length (take c.min-count.result c.loop-budget.sums)) c.args.broad.now c.requires.fed within
+    let within : c.loop-budget.budget + c.min-count.result ≤ c.args.to = omega (arith, c.min-count.ensures) in
+    all-fed-less g.Z.Summer.state c.args.target.now.network.now c.args.target.now.dest c.args.node c.args.to (c.loop-budget.budget + c.min-count.result) c.args.broad.now c.requires.fed within
 
 pub loop-budget-preserved : goal.loop-budget-preserved
 loop-budget-preserved g c =
-    let long : length (take c.min-count.result c.loop-budget.sums) ≡ c.min-count.result = simp length-take (omega (arith, c.min-count.ensures)) in
-    let both : IsLonger c.args.node (c.loop-budget.budget - c.args.from + length (take c.min-count.result c.loop-budget.sums)) c.args.tables.now c.fill_part.new.tables =
-    longer-more c.args.node (c.loop-budget.budget - c.args.from) (length (take c.min-count.result c.loop-budget.sums)) c.args.tables.now c.loop-budget.tables c.fill_part.new.tables c.loop-budget.invariant.longer c.fill_part.ensures.longer in
-    let count : c.loop-budget.budget - c.args.from + length (take c.min-count.result c.loop-budget.sums) ≡ c.loop-budget.budget + c.min-count.result - c.args.from = omega (arith, c.loop-budget.invariant.low) in
+    let both : IsLonger c.args.node (c.loop-budget.budget - c.args.from + c.min-count.result) c.args.tables.now c.fill_part.new.tables =
+    longer-more c.args.node (c.loop-budget.budget - c.args.from) c.min-count.result c.args.tables.now c.loop-budget.tables c.fill_part.new.tables c.loop-budget.invariant.longer c.fill_part.ensures.longer in
+    let count : c.loop-budget.budget - c.args.from + c.min-count.result ≡ c.loop-budget.budget + c.min-count.result - c.args.from = omega (arith, c.loop-budget.invariant.low) in
     record {
       low = omega (arith, c.loop-budget.invariant.low);
       high = omega (arith, c.min-count.ensures);

@@ -8,7 +8,7 @@ abbrev pub invariant-loop-budget : goal.invariant-loop-budget
 invariant-loop-budget g l = record {
   low : l.from ≤ l.budget;
   high : l.budget ≤ l.to;
-  ready : AreReady l.network l.dest (table_at l.tables);
+  ready : AreReady l.target.network.now l.target.dest (table_at l.tables);
   longer : IsLonger l.node (l.budget - l.from) l.fn.tables l.tables;
   count : l.pushes ≡ l.fn.pushes + 3 * (l.budget - l.from);
 }

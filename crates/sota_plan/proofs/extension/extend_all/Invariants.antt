@@ -1,6 +1,6 @@
 use Rattle.std.proofs.Common.{◌≡◌, length}
 use Rattle.sota_tables.specs.Views.{table_at}
-use Rattle.sota_plan.specs.Extends.{AllSummed, left_of}
+use Rattle.sota_plan.proofs.Extends.{AllSummed, left_of}
 use Rattle.sota_plan.proofs.Extending.{Going}
 use Rattle.sota_plan.proofs.extension.extend_all.Given as goal
 

@@ -1,90 +1,52 @@
-use Rattle.std.proofs.Common.{ℕ, ◌≡◌, ◌≢◌, ◌+◌, ◌-◌, ◌<◌, ◌≤◌, length, slice_index_or, slice_set, None, Some, sym, ◌∙◌, ap, subst, arith}
+use Rattle.std.proofs.Common.{rules, ◌≡◌, ◌+◌, ◌-◌, ◌≤◌, length, slice_set, Some, sym, ◌∙◌, ap, subst, arith}
 use Rattle.std.specs.Box.{with_value}
-use Rattle.sota_hist.specs.Time.{least_tick}
 use Rattle.sota_network.specs.Network.{Net}
 use Rattle.sota_network.specs.declared.network.Arc.{Arc}
-use Rattle.sota_kept.specs.Ticks.{END_LIMIT, up_to, least_to}
 use Rattle.sota_tables.specs.Views.{table_at}
 use Rattle.sota_fill.specs.declared.broad.Summers.{Summers}
 use Rattle.sota_fill.specs.Fed.{summers_at}
 use Rattle.sota_plan.specs.Summed.{IsSummed, SummedAs, CanFeed, values_below}
-use Rattle.sota_plan.proofs.FedMore.{summers-read, summers-set, summed-more, base-low}
+use Rattle.sota_plan.proofs.FedMore.{summers-read, summers-set, summed-more}
 use Rattle.sota_plan.proofs.feeding.feed_arc.Goals as goal
 
-pub feed_both-requires-clause-open : goal.feed_both-requires-clause-open
-feed_both-requires-clause-open g c =
-    let net : Net = c.args.network.now in
+pub feed_both-requires : goal.feed_both-requires
+feed_both-requires g c =
+    let net : Net = c.args.target.now.network.now in
     let arc : Arc = c.numbered-arc.result.now in
     let two = c.in-Some.two.value in
-    let within : c.get.result - 1 < length c.args.broad.now = omega (arith, c.requires.number, c.requires.broad, c.get.ensures) in
-    let found : summers_at c.args.broad.now c.args.number ≡ Some two =
-    summers-read c.args.broad.now c.args.number c.get.result c.index-broad-get.result c.in-Some.two c.get.ensures within c.in-Some.is in
-    let can : CanFeed g.Z.Summer.state net c.args.dest arc c.args.to two = c.requires.can arc two c.numbered-arc.ensures.value found in
-    can.is.open_arc
-
-pub feed_both-requires-clause-known : goal.feed_both-requires-clause-known
-feed_both-requires-clause-known g c = λ off.
-    let net : Net = c.args.network.now in
-    let arc : Arc = c.numbered-arc.result.now in
-    let two = c.in-Some.two.value in
-    let within : c.get.result - 1 < length c.args.broad.now = omega (arith, c.requires.number, c.requires.broad, c.get.ensures) in
-    let found : summers_at c.args.broad.now c.args.number ≡ Some two =
-    summers-read c.args.broad.now c.args.number c.get.result c.index-broad-get.result c.in-Some.two c.get.ensures within c.in-Some.is in
-    let can : CanFeed g.Z.Summer.state net c.args.dest arc c.args.to two = c.requires.can arc two c.numbered-arc.ensures.value found in
-    c.requires.known arc c.numbered-arc.ensures.value can.is.open_arc off
-
-pub feed_both-requires-clause-lower_room : goal.feed_both-requires-clause-lower_room
-feed_both-requires-clause-lower_room g c =
-    let net : Net = c.args.network.now in
-    let arc : Arc = c.numbered-arc.result.now in
-    let two = c.in-Some.two.value in
-    let within : c.get.result - 1 < length c.args.broad.now = omega (arith, c.requires.number, c.requires.broad, c.get.ensures) in
-    let found : summers_at c.args.broad.now c.args.number ≡ Some two =
-    summers-read c.args.broad.now c.args.number c.get.result c.index-broad-get.result c.in-Some.two c.get.ensures within c.in-Some.is in
-    let can : CanFeed g.Z.Summer.state net c.args.dest arc c.args.to two = c.requires.can arc two c.numbered-arc.ensures.value found in
-    let base : c.base_of-base.result ≡ least_to net c.args.dest arc.head =
-    c.base_of-base.ensures ∙ ap (λ (h : ℕ). up_to END_LIMIT (slice_index_or c.args.least.now (h - 1) None)) c.get-in-Some.ensures ∙ c.requires.least arc.head c.numbered-arc.ensures.valid.head.0 c.numbered-arc.ensures.valid.head.1 in
-    let lent : length (g.Z.Summer.state c.deref_mut.result.now.lower).values + (g.Z.Summer.state c.deref_mut.result.now.lower).room ≡ length (g.Z.Summer.state two.lower).values + (g.Z.Summer.state two.lower).room =
-    ap (λ (s : Summers g.row.Z.Denot). length (g.Z.Summer.state s.lower).values + (g.Z.Summer.state s.lower).room) c.deref_mut.ensures.value in
-    omega (arith, lent, can.room, can.is.lower_total, base)
-
-pub feed_both-requires-clause-upper_room : goal.feed_both-requires-clause-upper_room
-feed_both-requires-clause-upper_room g c =
-    let net : Net = c.args.network.now in
-    let arc : Arc = c.numbered-arc.result.now in
-    let two = c.in-Some.two.value in
-    let within : c.get.result - 1 < length c.args.broad.now = omega (arith, c.requires.number, c.requires.broad, c.get.ensures) in
-    let found : summers_at c.args.broad.now c.args.number ≡ Some two =
-    summers-read c.args.broad.now c.args.number c.get.result c.index-broad-get.result c.in-Some.two c.get.ensures within c.in-Some.is in
-    let can : CanFeed g.Z.Summer.state net c.args.dest arc c.args.to two = c.requires.can arc two c.numbered-arc.ensures.value found in
-    let base : c.base_of-base.result ≡ least_to net c.args.dest arc.head =
-    c.base_of-base.ensures ∙ ap (λ (h : ℕ). up_to END_LIMIT (slice_index_or c.args.least.now (h - 1) None)) c.get-in-Some.ensures ∙ c.requires.least arc.head c.numbered-arc.ensures.valid.head.0 c.numbered-arc.ensures.valid.head.1 in
-    let lent : length (g.Z.Summer.state c.deref_mut.result.now.upper).values + (g.Z.Summer.state c.deref_mut.result.now.upper).room ≡ length (g.Z.Summer.state two.upper).values + (g.Z.Summer.state two.upper).room =
-    ap (λ (s : Summers g.row.Z.Denot). length (g.Z.Summer.state s.upper).values + (g.Z.Summer.state s.upper).room) c.deref_mut.ensures.value in
-    omega (arith, lent, can.room, can.is.upper_total, base)
+    let found : summers_at c.args.broad.now c.args.number ≡ Some two = summers-read c.args.broad.now c.args.number c.get.result _ c.index-broad-get.result c.in-Some.two c.get.ensures c.requires.number c.requires.broad c.in-Some.is in
+    let can : CanFeed g.Z.Summer.state net c.args.target.now.dest arc c.args.to two = c.requires.can arc two c.numbered-arc.ensures.value found in
+    let lent = c.deref_mut.ensures.value in
+    let lower : length (g.Z.Summer.state c.deref_mut.result.now.lower).values + (g.Z.Summer.state c.deref_mut.result.now.lower).room ≡ can.total = ap (λ (s : Summers g.row.Z.Denot). length (g.Z.Summer.state s.lower).values + (g.Z.Summer.state s.lower).room) lent ∙ can.is.lower_total in
+    let upper : length (g.Z.Summer.state c.deref_mut.result.now.upper).values + (g.Z.Summer.state c.deref_mut.result.now.upper).room ≡ can.total = ap (λ (s : Summers g.row.Z.Denot). length (g.Z.Summer.state s.upper).values + (g.Z.Summer.state s.upper).room) lent ∙ can.is.upper_total in
+    record {
+      «open» = can.is.open_arc;
+      base = search rules;
+      head = search rules;
+      above = search rules;
+      known = λ off. c.requires.known arc c.numbered-arc.ensures.value can.is.open_arc off;
+      lower_room = omega (arith, lower, can.room, c.base-base.ensures);
+      upper_room = omega (arith, upper, can.room, c.base-base.ensures);
+    }
 
 pub returns-in-Some-clause-fed : goal.returns-in-Some-clause-fed
 returns-in-Some-clause-fed g c = λ other count total number summed less.
-    let net : Net = c.args.network.now in
+    let net : Net = c.args.target.now.network.now in
     let arc : Arc = c.numbered-arc.result.now in
     let two = c.in-Some.two.value in
-    let within : c.get.result - 1 < length c.args.broad.now = omega (arith, c.requires.number, c.requires.broad, c.get.ensures) in
-    let found : summers_at c.args.broad.now c.args.number ≡ Some two =
-    summers-read c.args.broad.now c.args.number c.get.result c.index-broad-get.result c.in-Some.two c.get.ensures within c.in-Some.is in
-    let can : CanFeed g.Z.Summer.state net c.args.dest arc c.args.to two = c.requires.can arc two c.numbered-arc.ensures.value found in
-    let base : c.base_of-base.result ≡ least_to net c.args.dest arc.head =
-    c.base_of-base.ensures ∙ ap (λ (h : ℕ). up_to END_LIMIT (slice_index_or c.args.least.now (h - 1) None)) c.get-in-Some.ensures ∙ c.requires.least arc.head c.numbered-arc.ensures.valid.head.0 c.numbered-arc.ensures.valid.head.1 in
+    let found : summers_at c.args.broad.now c.args.number ≡ Some two = summers-read c.args.broad.now c.args.number c.get.result _ c.index-broad-get.result c.in-Some.two c.get.ensures c.requires.number c.requires.broad c.in-Some.is in
+    let can : CanFeed g.Z.Summer.state net c.args.target.now.dest arc c.args.to two = c.requires.can arc two c.numbered-arc.ensures.value found in
     let same : arc ≡ other = (let both : Some arc ≡ Some other = sym c.numbered-arc.ensures.value ∙ number in cc) in
     let one : summed.two ≡ two = (let both : Some summed.two ≡ Some two = sym summed.are ∙ found in cc) in
-    let lent : IsSummed g.Z.Summer.state net c.args.dest arc count total c.deref_mut.result.now =
-    subst (λ (s : Summers g.row.Z.Denot). IsSummed g.Z.Summer.state net c.args.dest arc count total s) (one ∙ sym c.deref_mut.ensures.value)
-    (subst (λ (a : Arc). IsSummed g.Z.Summer.state net c.args.dest a count total summed.two) (sym same) summed.is) in
-    let fewer : count ≤ values_below net c.args.dest arc c.args.to = subst (λ (a : Arc). count ≤ values_below net c.args.dest a c.args.to) (sym same) less in
+    let lent : IsSummed g.Z.Summer.state net c.args.target.now.dest arc count total c.deref_mut.result.now =
+    subst (λ (s : Summers g.row.Z.Denot). IsSummed g.Z.Summer.state net c.args.target.now.dest arc count total s) (one ∙ sym c.deref_mut.ensures.value)
+    (subst (λ (a : Arc). IsSummed g.Z.Summer.state net c.args.target.now.dest a count total summed.two) (sym same) summed.is) in
+    let fewer : count ≤ values_below net c.args.target.now.dest arc c.args.to = subst (λ (a : Arc). count ≤ values_below net c.args.target.now.dest a c.args.to) (sym same) less in
     let both = c.feed_both.ensures in
-    subst (λ (a : Arc). SummedAs g.Z.Summer.state net c.args.dest a (values_below net c.args.dest a c.args.to) total (summers_at (slice_set c.args.broad.now (c.get.result - 1) (Some (with_value c.in-Some.two c.feed_both.new.two))) c.args.number)) same
+    subst (λ (a : Arc). SummedAs g.Z.Summer.state net c.args.target.now.dest a (values_below net c.args.target.now.dest a c.args.to) total (summers_at (slice_set c.args.broad.now (c.get.result - 1) (Some (with_value c.in-Some.two c.feed_both.new.two))) c.args.number)) same
     (record {
       two = c.feed_both.new.two;
-      are = summers-set c.args.broad.now c.args.number c.get.result (with_value c.in-Some.two c.feed_both.new.two) c.get.ensures within;
-      is = summed-more g.Z.Summer.state net c.args.dest arc count total c.args.to c.base_of-base.result c.deref_mut.result.now c.feed_both.new.two (table_at c.args.tables.now) base lent fewer (c.requires.reads arc c.numbered-arc.ensures.value)
+      are = summers-set c.args.broad.now c.args.number c.get.result _ (with_value c.in-Some.two c.feed_both.new.two) c.get.ensures c.requires.number c.requires.broad;
+      is = summed-more g.Z.Summer.state net c.args.target.now.dest arc count total c.args.to c.base-base.result c.deref_mut.result.now c.feed_both.new.two (table_at c.args.tables.now) c.base-base.ensures lent fewer (c.requires.reads arc c.numbered-arc.ensures.value)
           both.lower both.upper both.lower_count both.upper_count both.lower_total both.upper_total;
     })

@@ -1,5 +1,4 @@
-use Rattle.std.proofs.Common.{rules, ℕ, ◌≡◌, ◌+◌, ◌-◌, ◌<◌, ◌≤◌, slice_index, sym, ◌∙◌, ap, arith}
-use Rattle.sota_hist.specs.Time.{least_tick}
+use Rattle.std.proofs.Common.{rules, ◌≡◌, ◌+◌, ◌≤◌, sym, ◌∙◌, arith}
 use Rattle.sota_tables.specs.Views.{table_at}
 use Rattle.sota_plan.proofs.FedMore.{lower-read, upper-read, lower-one, upper-one}
 use Rattle.sota_plan.proofs.feeding.feed_both.Goals as goal

@@ -2,4 +2,4 @@ use Rattle.sota_plan.proofs.SumGoing.{FedSome}
 use Rattle.sota_plan.proofs.feeding.feed_extent.Given as goal
 
 abbrev pub invariant-loop-number : goal.invariant-loop-number
-invariant-loop-number g l = FedSome g.Z.Summer.state l.network l.dest l.fn.node l.to l.number-items l.number-index l.fn.broad l.broad
+invariant-loop-number g l = FedSome g.Z.Summer.state l.target.network.now l.target.dest l.fn.node l.to l.number-items l.number-index l.fn.broad l.broad

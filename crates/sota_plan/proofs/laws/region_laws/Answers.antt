@@ -1,8 +1,7 @@
-use Rattle.std.proofs.Common.{ℕ, ◌≡◌, ◌≤◌, sym, arith}
+use Rattle.std.proofs.Common.{ℕ, sym, arith}
 use Rattle.sota_bounds.specs.Search.{time_at}
 use Rattle.sota_kept.specs.Laws.{ListLaws}
 use Rattle.sota_kept.specs.Ticks.{END_LIMIT}
-use Rattle.sota_plan.specs.Laws.{TimeLaws, RegionLaws}
 use Rattle.sota_plan.proofs.Preparing.{needs-within, need-is, needs-all}
 use Rattle.sota_plan.proofs.laws.region_laws.Goals as goal
 

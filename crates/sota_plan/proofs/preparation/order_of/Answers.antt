@@ -1,4 +1,4 @@
-use Rattle.std.proofs.Common.{ℕ, ◌≡◌, refl, List}
+use Rattle.std.proofs.Common.{◌≡◌, refl}
 use Rattle.sota_network.specs.Network.{Net}
 use Rattle.sota_kept.specs.Laws.{ListLaws}
 use Rattle.sota_kept.specs.TableLists.{table_of}

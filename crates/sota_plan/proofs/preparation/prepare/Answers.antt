@@ -1,4 +1,4 @@
-use Rattle.std.proofs.Common.{ℕ, ◌≡◌, List, map, subst}
+use Rattle.std.proofs.Common.{ℕ, map, subst}
 use Rattle.sota_network.specs.Network.{Net}
 use Rattle.sota_kept.specs.TableLists.{AreTables}
 use Rattle.sota_tables.specs.Views.{lists_of}

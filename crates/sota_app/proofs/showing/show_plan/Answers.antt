@@ -1,0 +1,29 @@
+use Rattle.std.proofs.Common.{rules, ◌≡◌, Err, refl}
+use Rattle.sota_units.specs.Memory.{Unless}
+use Rattle.sota_edge.specs.Sink.{SinkState}
+use Rattle.sota_session.specs.Answers as asks
+use Rattle.sota_app.specs.Script.{session_ask}
+use Rattle.sota_app.specs.Shown.{plan_result}
+use Rattle.sota_app.specs.Outcome.{shown}
+use Rattle.sota_app.specs.declared.stop.Stop.TheVariants as stops
+use Rattle.sota_app.proofs.Made.{nothing_made}
+use Rattle.sota_app.proofs.ShownPlan.{refused_ends}
+use Rattle.sota_app.proofs.showing.show_plan.Goals as goal
+
+pub returns-in_err-session-clause-made : goal.returns-in_err-session-clause-made
+returns-in_err-session-clause-made g c = λ d.
+    let is : c.from_residual.result ≡ Err stops.NoMemory = search rules in
+    let s : SinkState = g.O.Sink.state c.args.out.now in
+    rw is (nothing_made (shown c.args.network (session_ask c.args.ask)).outputs d d s s refl refl)
+
+pub returns-clause-made : goal.returns-clause-made
+returns-clause-made g c = λ d.
+    let net = c.args.network in
+    let ask = session_ask c.args.ask in
+    let fault = c.in-Err.fault in
+    let s : SinkState = g.O.Sink.state c.args.out.now in
+    let t : SinkState = g.O.Sink.state c.refuse_ask.new.out in
+    let answers : Unless (asks.is_shortage fault) (plan_result net ask ≡ Err fault) =
+    search rules in
+    refused_ends net ask fault (asks.is_shortage fault) c.refuse_ask.result d s t answers
+    c.refuse_ask.ensures.line c.refuse_ask.ensures.shortage

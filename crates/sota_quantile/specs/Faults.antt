@@ -1,0 +1,58 @@
+-- Why a need is refused: for what refuses an ask with the greatest budget.
+use Rattle.std.specs.Prelude.{ℕ, ◌&&◌, nat_le, Bool, true, false, List, codes, Option, Some, None}
+use Rattle.std.specs.Prelude.{if◌then◌else◌}
+use Rattle.std.specs.Option.{option_map, option_or}
+use Rattle.sota_units.specs.Limits.{BUDGET_LIMIT}
+use Rattle.sota_network.specs.Network.{Net}
+use Rattle.sota_bounds.specs.Faults.{region_fault}
+use Rattle.sota_bounds.specs.declared.fault.RegionFault.{RegionFault}
+use Rattle.sota_bounds.specs.declared.fault.RegionFault.TheVariants as regions
+use Rattle.sota_quantile.specs.declared.need.NeedFault.{NeedFault}
+use Rattle.sota_quantile.specs.declared.need.NeedFault.TheVariants as needs
+
+-- whether a node has this number
+abbrev pub is_node : Net → ℕ → Bool
+is_node net node = nat_le 1 node && nat_le node net.nodes
+
+-- the first number that is out of range, none where all are in it
+abbrev pub range_fault : Net → ℕ → ℕ → ℕ → Option NeedFault
+range_fault net origin dest most =
+    if is_node net origin then
+    (if is_node net dest then
+    (if nat_le most BUDGET_LIMIT then None else Some needs.Budget)
+    else Some needs.NoDest)
+    else Some needs.NoOrigin
+
+-- a region that is too large is one that cannot be planned for
+abbrev pub size_cause : RegionFault → NeedFault
+size_cause (regions.TableCells count) = needs.TableCells count
+size_cause (regions.BroadCells count) = needs.BroadCells count
+size_cause regions.NoMemory = needs.NoMemory
+
+abbrev pub size_fault : Net → ℕ → ℕ → ℕ → Option NeedFault
+size_fault net origin dest most = option_map size_cause (region_fault net origin dest most)
+
+-- the first cause for which a need is refused, none where it is answered
+abbrev pub need_fault : Net → ℕ → ℕ → ℕ → Option NeedFault
+need_fault net origin dest most =
+    option_or (range_fault net origin dest most) (size_fault net origin dest most)
+
+-- want of memory has no cause in what was handed in
+abbrev pub is_shortage : NeedFault → Bool
+is_shortage needs.NoMemory = true
+is_shortage _ = false
+
+-- the name of a refused need's fault, as replies print it
+abbrev pub need_word : NeedFault → List ℕ
+need_word needs.NoOrigin = codes "NoOrigin"
+need_word needs.NoDest = codes "NoDest"
+need_word needs.Budget = codes "Budget"
+need_word (needs.TableCells count) = codes "TableCells"
+need_word (needs.BroadCells count) = codes "BroadCells"
+need_word needs.NoMemory = codes "NoMemory"
+
+-- the count that exceeds a limit of size, where the fault is one of the two that have one
+abbrev pub need_count : NeedFault → Option ℕ
+need_count (needs.TableCells count) = Some count
+need_count (needs.BroadCells count) = Some count
+need_count _ = None

@@ -1,0 +1,4 @@
+pub mod Along
+pub mod Legs
+pub mod Values
+pub mod Weighing
