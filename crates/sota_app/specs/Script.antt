@@ -99,7 +99,6 @@ effect_of net (commands.Policy ask name) = record {
   reply = replies.Stored (policy_file net ask name);
   next = net;
 }
-
 effect_of net (commands.Route dest budget arcs) =
     record { reply = replies.Bracketed (bracket_of net dest budget arcs); next = net }
 
