@@ -5,6 +5,8 @@ pub mod AnswerLines
 pub mod Lines
 pub mod Reaches
 pub mod WorkValid
+pub mod Worked
+pub mod Idle
 pub mod Exact
 pub mod Ends
 pub mod EachLine

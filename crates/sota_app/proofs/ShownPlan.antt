@@ -16,7 +16,7 @@ use Rattle.sota_session.specs.declared.ask.AskFault.{AskFault}
 use Rattle.sota_app.specs.Outputs.{only_line, Ends, LineEnds}
 use Rattle.sota_app.specs.Replies.{answer_line, refused_line}
 use Rattle.sota_app.specs.Verdicts.{named, accepted_line, verdict_status}
-use Rattle.sota_app.specs.Shown.{made_line, plan_result}
+use Rattle.sota_app.specs.Shown.{made_line, plan_result, HoldsUnlessRefused}
 use Rattle.sota_app.specs.Outcome.{Outcome, shown}
 use Rattle.sota_app.specs.Causes.{Delivered}
 use Rattle.sota_app.specs.Inputs.{NoInputWritten, IsWorked}
@@ -89,6 +89,16 @@ refused_ends net ask fault true result d s t answers line gone =
     rw none.0 (nothing_made (shown net ask).outputs d d s t refl none.1)
 refused_ends net ask fault false result d s t answers line gone =
     rw answers (last_ends result (refused_line 1 (refusals.Ask fault)) d s t line)
+
+-- an ask that is refused has no policy that would have to hold
+pub refused_holds : (net : Net) (ask : Ask) (fault : AskFault) (short : Bool)
+    (result : Result Status Stop) → Unless short (plan_result net ask ≡ Err fault)
+    → (short ≡ true → result ≡ Err stops.NoMemory)
+    → IfOk result (λ status. HoldsUnlessRefused net ask)
+refused_holds net ask fault true result answers gone = rw (gone refl) tt
+refused_holds net ask fault false (Err stop) answers gone = tt
+refused_holds net ask fault false (Ok status) answers gone =
+    λ none. absurd (let both = rw none at answers in cc)
 
 -- ---- whether the job was done
 

@@ -20,7 +20,7 @@ use Rattle.sota_app.specs.declared.input.NoInput.{NoInput}
 use Rattle.sota_app.specs.declared.input.NoInput.TheVariants as ends
 use Rattle.sota_app.specs.declared.status.Status.{Status}
 use Rattle.sota_app.specs.declared.status.Status.TheVariants.{Done, SomeRefused}
-use Rattle.sota_app.specs.declared.status.Status.TheVariants.{Input, ReadFault, NoMemory}
+use Rattle.sota_app.specs.declared.status.Status.TheVariants.{Words, Input, ReadFault, NoMemory}
 use Rattle.sota_app.specs.declared.stop.Stop.{Stop}
 
 -- the lines of a script
@@ -82,6 +82,13 @@ NoInputWritten (ends.Fault fault) result old new =
     LineEnds result (fault_line fault) old new × IfOk result (λ status. status ≡ Input)
 NoInputWritten ends.Unread result old new = (result ≡ Ok ReadFault) × (new ≡ old)
 NoInputWritten ends.NoMemory result old new = (result ≡ Ok NoMemory) × (new ≡ old)
+
+-- there was no job: the words are no request, or an input was not accepted or not read
+abbrev pub IsIdle : Status → Type 0
+IsIdle Words = Unit {0}
+IsIdle Input = Unit {0}
+IsIdle ReadFault = Unit {0}
+IsIdle _ = ⊥
 
 -- a job was done
 abbrev pub IsWorked : Status → Type 0

@@ -1,6 +1,7 @@
 pub mod Status
 pub mod Requests
 pub mod Words
+pub mod Work
 pub mod Outputs
 pub mod Replies
 pub mod Script

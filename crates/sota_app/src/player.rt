@@ -1,15 +1,19 @@
 // Lines that are played: each is done and replied to before the next.
-ghost use Rattle.std.specs.Prelude.{◌≡◌, ◌≤◌, ◌<◌, ◌^◌, ◌∷◌, [], length};
-ghost use Rattle.std.specs.Prelude.{false, IfOk, OnErr, Some};
+ghost use Rattle.std.specs.Prelude.{◌≡◌, ◌≤◌, ◌<◌, ◌+◌, ◌^◌, ◌∷◌, [], length};
+ghost use Rattle.std.specs.Prelude.{false, IfOk, IfErr, OnOk, OnErr, Some};
 ghost use Rattle.sota_units.specs.Limits.{TEXT_LIMIT};
-ghost use Rattle.sota_units.specs.Memory.{AnswersBy};
+ghost use Rattle.sota_units.specs.Memory.{AnswersBy, Unless};
+ghost use Rattle.sota_kept.specs.States.{first_state};
 ghost use Rattle.sota_script.specs.Few.{HasFewPairs};
 ghost use Rattle.sota_script.specs.declared.command.Command.TheVariants.{Edit, Close, Route};
 ghost use Rattle.sota_app.specs.Outputs.{Ends};
 ghost use Rattle.sota_app.specs.Replies.{is_shortage, outputs_of, lines_status, replies_status};
 ghost use Rattle.sota_app.specs.Script.{session_ask, command_result, result_step, step};
 ghost use Rattle.sota_app.specs.Script.{script_line, ask_on, script_lines, replies_to};
+ghost use Rattle.sota_session.specs.State.{kept_state};
 ghost use Rattle.sota_app.specs.Inputs.{lines_of, IsShort};
+ghost use Rattle.sota_app.specs.Work.{IsSpent, command_effort, no_effort, result_effort};
+ghost use Rattle.sota_app.specs.Work.{line_effort, work};
 ghost use Rattle.sota_app.specs.declared.reply.Reply.TheVariants.{Refused};
 
 use crate::inputs::Script;
@@ -84,9 +88,14 @@ impl<D: Desk, O: Sink, M: Ledger, P: Ledger> Player<'_, '_, '_, '_, '_, D, O, M,
             result (command_result self.old.session.now.network (Edit arc pairs.now)) }
         ensures kept { OnErr result
             (self.new.session.now.network ≡ self.old.session.now.network) }
+        ensures effort { OnOk result (IsSpent
+            (command_effort self.old.session.now.network (Edit arc pairs.now)
+            (kept_state self.old.session.now))
+            self.old.pushes.now self.new.pushes.now (kept_state self.new.session.now)) }
+        ensures unchanged { OnErr result (self.new.session.now ≡ self.old.session.now) }
         ensures desk { self.new.desk ≡ self.old.desk }
         ensures sink { self.new.out ≡ self.old.out }
-        ensures pushes { self.new.pushes.ghost_name ≡ self.old.pushes.ghost_name }
+        ensures pushes { self.new.pushes ≡ self.old.pushes }
     {
         let scale = self.session.network().scale();
         let time = Histogram::at_most(self.alloc, scale, pairs.as_slice())?;
@@ -101,9 +110,14 @@ impl<D: Desk, O: Sink, M: Ledger, P: Ledger> Player<'_, '_, '_, '_, '_, D, O, M,
             result (command_result self.old.session.now.network (Close arc)) }
         ensures kept { OnErr result
             (self.new.session.now.network ≡ self.old.session.now.network) }
+        ensures effort { OnOk result (IsSpent
+            (command_effort self.old.session.now.network (Close arc)
+            (kept_state self.old.session.now))
+            self.old.pushes.now self.new.pushes.now (kept_state self.new.session.now)) }
+        ensures unchanged { OnErr result (self.new.session.now ≡ self.old.session.now) }
         ensures desk { self.new.desk ≡ self.old.desk }
         ensures sink { self.new.out ≡ self.old.out }
-        ensures pushes { self.new.pushes.ghost_name ≡ self.old.pushes.ghost_name }
+        ensures pushes { self.new.pushes ≡ self.old.pushes }
     {
         self.session.edit(arc, Histogram::closed(self.alloc))?;
         Ok(Reply::Closed(arc))
@@ -133,6 +147,13 @@ impl<D: Desk, O: Sink, M: Ledger, P: Ledger> Player<'_, '_, '_, '_, '_, D, O, M,
             result (command_result self.old.session.now.network command) }
         ensures kept { OnErr result
             (self.new.session.now.network ≡ self.old.session.now.network) }
+        ensures effort { OnOk result (IsSpent
+            (command_effort self.old.session.now.network command
+            (kept_state self.old.session.now))
+            self.old.pushes.now self.new.pushes.now (kept_state self.new.session.now)) }
+        ensures no_effort { IfErr result (λ refusal. Unless (is_shortage refusal)
+            (IsSpent (no_effort (kept_state self.old.session.now))
+            self.old.pushes.now self.new.pushes.now (kept_state self.new.session.now))) }
         ensures desk { self.new.desk ≡ self.old.desk }
         ensures sink { self.new.out ≡ self.old.out }
         ensures pushes { self.new.pushes.ghost_name ≡ self.old.pushes.ghost_name }
@@ -169,6 +190,10 @@ impl<D: Desk, O: Sink, M: Ledger, P: Ledger> Player<'_, '_, '_, '_, '_, D, O, M,
             record { reply = Some reply; next = self.new.session.now.network }
             ≡ result_step self.old.session.now.network number
             (command_result self.old.session.now.network command)) }
+        ensures effort { OnOk result (IsSpent
+            (result_effort self.old.session.now.network command
+            (kept_state self.old.session.now))
+            self.old.pushes.now self.new.pushes.now (kept_state self.new.session.now)) }
         ensures desk { self.new.desk ≡ self.old.desk }
         ensures sink { self.new.out ≡ self.old.out }
         ensures pushes { self.new.pushes.ghost_name ≡ self.old.pushes.ghost_name }
@@ -185,6 +210,10 @@ impl<D: Desk, O: Sink, M: Ledger, P: Ledger> Player<'_, '_, '_, '_, '_, D, O, M,
         ensures reply { IfOk result (λ reply.
             record { reply = reply; next = self.new.session.now.network }
             ≡ step self.old.session.now.network (script_line (number, line.now))) }
+        ensures effort { OnOk result (IsSpent
+            (line_effort self.old.session.now.network (script_line (number, line.now))
+            (kept_state self.old.session.now))
+            self.old.pushes.now self.new.pushes.now (kept_state self.new.session.now)) }
         ensures desk { self.new.desk ≡ self.old.desk }
         ensures sink { self.new.out ≡ self.old.out }
         ensures pushes { self.new.pushes.ghost_name ≡ self.old.pushes.ghost_name }
@@ -206,6 +235,9 @@ impl<D: Desk, O: Sink, M: Ledger, P: Ledger> Player<'_, '_, '_, '_, '_, D, O, M,
             (O.state self.old.out.now) (O.state self.new.out.now) }
         ensures status { IfOk result (λ status. status
             ≡ replies_status (replies_to self.old.session.now.network (lines_of script.now))) }
+        ensures count { OnOk result (self.new.pushes.now ≡ self.old.pushes.now
+            + work self.old.session.now.network (lines_of script.now)
+            (kept_state self.old.session.now)) }
         ensures desk { self.new.desk.ghost_name ≡ self.old.desk.ghost_name }
         ensures sink { self.new.out.ghost_name ≡ self.old.out.ghost_name }
         ensures pushes { self.new.pushes.ghost_name ≡ self.old.pushes.ghost_name }
@@ -251,6 +283,8 @@ pub fn play_lines<D: Desk, O: Sink, M: Ledger, P: Ledger>(
         (D.state desk.old) (D.state desk.new) (O.state out.old) (O.state out.new) }
     ensures status { IfOk result (λ status. status
         ≡ replies_status (replies_to network (lines_of script.now))) }
+    ensures count { OnOk result (pushes.new
+        ≡ pushes.old + work network (lines_of script.now) (first_state network.nodes)) }
 {
     let mut session = Session::new(alloc, network)?;
     let mut products = Steps::<M>::new(blank);

@@ -1,16 +1,20 @@
 // The plan of a network that is made.
-ghost use Rattle.std.specs.Prelude.{◌≡◌, ◌≤◌, ◌<◌, true, Ok, Err, IfOk};
-ghost use Rattle.sota_units.specs.Memory.{Answers};
+ghost use Rattle.std.specs.Prelude.{◌≡◌, ◌+◌, ◌≤◌, ◌<◌, true, Ok, Err, IfOk, IfErr, OnOk};
+ghost use Rattle.sota_units.specs.Memory.{Answers, Unless};
 ghost use Rattle.sota_edge.specs.Desk.{DeskState};
 ghost use Rattle.sota_bounds.specs.Faults.{TABLE_LIMIT};
 ghost use Rattle.sota_polfile.specs.Table.{cells};
 ghost use Rattle.sota_polfile.specs.Spelling.{file_len};
+ghost use Rattle.sota_kept.specs.States.{first_state};
 ghost use Rattle.sota_session.specs.Answers as asks;
+ghost use Rattle.sota_session.specs.Asks.{ask_fault};
+ghost use Rattle.sota_session.specs.State.{kept_state};
 ghost use Rattle.sota_app.specs.Outputs.{Ends, LineEnds};
 ghost use Rattle.sota_app.specs.Replies.{refused_line};
 ghost use Rattle.sota_app.specs.Script.{session_ask};
 ghost use Rattle.sota_app.specs.Shown.{made_line, plan_result, HoldsUnlessRefused};
 ghost use Rattle.sota_app.specs.Outcome.{shown};
+ghost use Rattle.sota_app.specs.Work.{shown_pushes, pushes_unless};
 ghost use Rattle.sota_app.specs.declared.reply.Refusal.TheVariants as refusals;
 
 use crate::checking::check_policy;
@@ -60,6 +64,9 @@ pub fn show_plan<O: Sink, M: Ledger, P: Ledger>(
         (O.state out.old) (O.state out.new) }
     ensures status { IfOk result (λ status. status ≡ (shown network (session_ask ask)).status) }
     ensures holds { IfOk result (λ _. HoldsUnlessRefused network (session_ask ask)) }
+    ensures count { OnOk result (pushes.new ≡ pushes.old
+        + pushes_unless (ask_fault network (session_ask ask))
+        (shown_pushes network (session_ask ask) (first_state network.nodes))) }
 {
     let mut session = Session::new(alloc, network)?;
     let mut products = Steps::<M>::new(blank);
@@ -81,6 +88,10 @@ fn make_plan<M: Ledger, P: Ledger>(
     ensures holds { IfOk result (λ _. HoldsUnlessRefused session.old.network ask.now) }
     ensures few { IfOk result (λ plan. cells plan.table ≤ TABLE_LIMIT) }
     ensures kept { session.new.network ≡ session.old.network }
+    ensures count { OnOk result (pushes.new ≡ pushes.old
+        + shown_pushes session.old.network ask.now (kept_state session.old)) }
+    ensures no_push { IfErr result (λ fault.
+        Unless (asks.is_shortage fault) (pushes.new ≡ pushes.old)) }
 {
     let answer = session.ask(*ask, products, pushes)?;
     let table = session.policy(*ask, products, pushes)?;

@@ -1,5 +1,5 @@
 // The top call.
-ghost use Rattle.std.specs.Prelude.{◌≡◌, ◌≢◌, Some, Err, IfOk, map, string_bytes};
+ghost use Rattle.std.specs.Prelude.{◌≡◌, ◌≢◌, ◌+◌, Some, Err, IfOk, OnOk, map, string_bytes};
 ghost use Rattle.sota_edge.specs.Counts.{Rose};
 ghost use Rattle.sota_edge.specs.Desk.{Files};
 ghost use Rattle.sota_network.specs.Network.{Net};
@@ -7,7 +7,8 @@ ghost use Rattle.sota_polfile.specs.Table.{Table};
 ghost use Rattle.sota_app.specs.Outputs.{Ends, LineEnds};
 ghost use Rattle.sota_app.specs.Words.{request_of};
 ghost use Rattle.sota_app.specs.Inputs.{NoInputWritten, IsShortJob, job_of};
-ghost use Rattle.sota_app.specs.Inputs.{IsWorked, JobHolds};
+ghost use Rattle.sota_app.specs.Inputs.{IsWorked, IsIdle, JobHolds};
+ghost use Rattle.sota_app.specs.Work.{job_work};
 ghost use Rattle.sota_app.specs.Outcome as outcomes;
 ghost use Rattle.sota_app.specs.Outcome.{outcome, refused_words, job_outcome};
 ghost use Rattle.sota_app.specs.Causes.{Ended, Delivered, NoFault, status_of};
@@ -78,6 +79,7 @@ fn do_job<D: Desk, O: Sink, P: Ledger>(
     ensures status { IfOk result (λ status.
         status ≡ (job_outcome network (job_of job)).status) }
     ensures holds { IfOk result (λ _. JobHolds network (job_of job)) }
+    ensures count { OnOk result (pushes.new ≡ pushes.old + job_work network (job_of job)) }
 {
     match job {
         Job::Play(script) => {
@@ -107,6 +109,12 @@ fn serve<D: Desk, O: Sink, P: Ledger>(
         → (D.state desk.old).holds ≡ Some files
         → IsJob (map string_bytes words.now) files net job
         → IfOk result (λ status. IsWorked status → JobHolds net job) }
+    ensures counted { (files : Files) (net : Net) (job : outcomes.Job)
+        → (D.state desk.old).holds ≡ Some files
+        → IsJob (map string_bytes words.now) files net job
+        → IfOk result (λ status. IsWorked status
+        → pushes.new ≡ pushes.old + job_work net job) }
+    ensures idle { IfOk result (λ status. IsIdle status → pushes.new ≡ pushes.old) }
 {
     let Some(request) = read_words(words) else {
         return refuse_words(out);
@@ -119,7 +127,7 @@ fn serve<D: Desk, O: Sink, P: Ledger>(
 
 /// Reads the words after the program's name and the files that they name, stores the files that
 /// lines ask for, and writes the replies.
-/// `pushes` is for entries that planning pushes to its tables; nothing is promised of it yet.
+/// `pushes` counts the entries that planning pushes to its tables, three for each.
 pub fn run<D: Desk, O: Sink, P: Ledger>(
     alloc: Global,
     words: &[String],
@@ -167,6 +175,13 @@ pub fn run<D: Desk, O: Sink, P: Ledger>(
         → NoFault (D.state desk.old) (D.state desk.new) (O.state out.old) (O.state out.new)
         → result ≢ Status.NoMemory → IsShown (map string_bytes words.now) files net ask
         → Shown net ask result (O.state out.old) (O.state out.new) }
+
+    // The pushes are counted exactly where the job is done, and there are none where there is none.
+    ensures counted { (files : Files) (net : Net) (job : outcomes.Job)
+        → (D.state desk.old).holds ≡ Some files → IsWorked result
+        → IsJob (map string_bytes words.now) files net job
+        → pushes.new ≡ pushes.old + job_work net job }
+    ensures idle { IsIdle result → pushes.new ≡ pushes.old }
 {
     texts_mean_graphs();
     texts_mean_networks();

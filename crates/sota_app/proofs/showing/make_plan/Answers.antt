@@ -2,6 +2,8 @@ use Rattle.std.proofs.Common.{rules, ◌≡◌, None}
 use Rattle.sota_polfile.specs.Table.{Table}
 use Rattle.sota_session.specs.Asks.{ask_fault}
 use Rattle.sota_session.specs.Plans.{plan_table}
+use Rattle.sota_session.specs.State.{kept_state}
+use Rattle.sota_app.proofs.Worked.{shown_count}
 use Rattle.sota_app.proofs.PlanCells.{few_cells}
 use Rattle.sota_app.proofs.showing.make_plan.Goals as goal
 
@@ -13,3 +15,9 @@ returns-clause-few g c =
     let answered : ask_fault net ask ≡ None = search rules in
     let is : table ≡ plan_table net ask = search rules in
     rw is (few_cells net ask answered)
+
+pub returns-clause-count : goal.returns-clause-count
+returns-clause-count g c =
+    shown_count c.args.session.now.network _ c.args.ask.now (kept_state c.args.session.now) _ _ _ _
+    c.in_ok-answer.ensures.count c.in_ok-answer.ensures.kept c.in_ok-answer.ensures.state
+    c.in_ok-table.ensures.count

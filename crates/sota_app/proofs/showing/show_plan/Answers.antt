@@ -1,13 +1,17 @@
-use Rattle.std.proofs.Common.{rules, ◌≡◌, Err, refl}
+use Rattle.std.proofs.Common.{rules, ◌≡◌, ◌+◌, Ok, Err, refl}
+use Rattle.sota_kept.specs.States.{first_state}
 use Rattle.sota_units.specs.Memory.{Unless}
 use Rattle.sota_edge.specs.Sink.{SinkState}
 use Rattle.sota_session.specs.Answers as asks
+use Rattle.sota_session.specs.State.{kept_state}
 use Rattle.sota_app.specs.Script.{session_ask}
 use Rattle.sota_app.specs.Shown.{plan_result}
 use Rattle.sota_app.specs.Outcome.{shown}
+use Rattle.sota_app.specs.Work.{shown_pushes}
+use Rattle.sota_app.proofs.Worked.{shown_all, shown_first, refused_count}
 use Rattle.sota_app.specs.declared.stop.Stop.TheVariants as stops
 use Rattle.sota_app.proofs.Made.{nothing_made}
-use Rattle.sota_app.proofs.ShownPlan.{refused_ends}
+use Rattle.sota_app.proofs.ShownPlan.{refused_ends, refused_holds}
 use Rattle.sota_app.proofs.showing.show_plan.Goals as goal
 
 pub returns-in_err-session-clause-made : goal.returns-in_err-session-clause-made
@@ -27,3 +31,33 @@ returns-clause-made g c = λ d.
     search rules in
     refused_ends net ask fault (asks.is_shortage fault) c.refuse_ask.result d s t answers
     c.refuse_ask.ensures.line c.refuse_ask.ensures.shortage
+
+pub returns-in-Ok-clause-count : goal.returns-in-Ok-clause-count
+returns-in-Ok-clause-count g c =
+    let net = c.args.network in
+    let ask = session_ask c.args.ask in
+    let answers : plan_result net ask ≡ Ok c.in-Ok.plan = search rules in
+    let made = shown_first net c.in_ok-session.session.network ask c.session_ask-ask.result
+    (kept_state c.in_ok-session.session) (first_state net.nodes) _ _ c.in-Ok.ensures.count
+    c.in_ok-session.ensures.network c.session_ask-ask.ensures c.in_ok-session.ensures.state in
+    shown_all net ask c.in-Ok.plan c.write_plan.result _ _ _ answers made
+
+pub returns-clause-count : goal.returns-clause-count
+returns-clause-count g c =
+    let net = c.args.network in
+    let ask = session_ask c.args.ask in
+    let fault = c.in-Err.fault in
+    let answers : Unless (asks.is_shortage fault) (plan_result net ask ≡ Err fault) =
+    search rules in
+    refused_count net ask fault (asks.is_shortage fault) c.refuse_ask.result _ _ _ answers
+    c.in-Err.ensures.no_push (λ short. (c.refuse_ask.ensures.shortage short).0)
+
+pub returns-clause-holds : goal.returns-clause-holds
+returns-clause-holds g c =
+    let net = c.args.network in
+    let ask = session_ask c.args.ask in
+    let fault = c.in-Err.fault in
+    let answers : Unless (asks.is_shortage fault) (plan_result net ask ≡ Err fault) =
+    search rules in
+    refused_holds net ask fault (asks.is_shortage fault) c.refuse_ask.result answers
+    (λ short. (c.refuse_ask.ensures.shortage short).0)

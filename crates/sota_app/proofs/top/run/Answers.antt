@@ -114,3 +114,9 @@ returns-in-Ok-clause-shown g c = λ files net ask tells none ran asked.
           valid;
       holds = holds.holds;
     }
+
+pub returns-in-Err-PutFailed-clause-idle : goal.returns-in-Err-PutFailed-clause-idle
+returns-in-Err-PutFailed-clause-idle g c = λ idle. absurd idle
+
+pub returns-in-Err-NoMemory-clause-idle : goal.returns-in-Err-NoMemory-clause-idle
+returns-in-Err-NoMemory-clause-idle g c = λ idle. absurd idle

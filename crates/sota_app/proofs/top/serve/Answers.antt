@@ -2,11 +2,12 @@ use Rattle.std.proofs.Common.{rules, ◌≡◌, List, ℕ, Option, Some, None, m
 use Rattle.sota_edge.specs.Desk.{DeskState}
 use Rattle.sota_edge.specs.Sink.{SinkState}
 use Rattle.sota_app.specs.Words.{request_of}
-use Rattle.sota_app.specs.Inputs.{task_work, JobHolds}
+use Rattle.sota_app.specs.Inputs.{task_work, job_of, JobHolds}
 use Rattle.sota_app.specs.Causes.{Ended, status_of}
 use Rattle.sota_app.specs.declared.words.Request.{Request}
 use Rattle.sota_app.proofs.Ends.{ok_ended, err_ended, words_ended}
 use Rattle.sota_app.proofs.ShownPlan.{not_worked}
+use Rattle.sota_app.proofs.Idle.{idle_done}
 use Rattle.sota_app.proofs.top.serve.Goals as goal
 
 pub returns-in_default-clause-ended : goal.returns-in_default-clause-ended
@@ -48,3 +49,8 @@ pub returns-in-Err-clause-holds : goal.returns-in-Err-clause-holds
 returns-in-Err-clause-holds g c = λ files net job tells is.
     not_worked (JobHolds net job) c.in-Err.end c.refuse_input.result
     (g.O.Sink.state c.args.out.now) (g.O.Sink.state c.refuse_input.new.out) c.refuse_input.ensures
+
+pub returns-in-Ok-clause-idle : goal.returns-in-Ok-clause-idle
+returns-in-Ok-clause-idle g c =
+    idle_done (c.do_job.new.pushes ≡ c.args.pushes.now) c.do_job.result
+    c.in-Ok.field-0.network (job_of c.in-Ok.field-0.job) c.do_job.ensures.status

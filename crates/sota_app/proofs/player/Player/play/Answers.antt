@@ -1,10 +1,13 @@
-use Rattle.std.proofs.Common.{rules, ◌≡◌, [], map, List, Err, refl, sym, ap, ◌∙◌, subst}
+use Rattle.std.proofs.Common.{rules, ◌≡◌, ◌+◌, [], map, List, Err, refl, sym, ap, ◌∙◌, subst, arith}
 use Rattle.std.proofs.lemmas.List.{map-append}
 use Rattle.sota_edge.specs.Desk.{DeskState}
 use Rattle.sota_edge.specs.Sink.{SinkState}
 use Rattle.sota_app.specs.Outputs.{Stopped}
 use Rattle.sota_app.specs.Script.{ScriptLine, script_lines}
+use Rattle.sota_session.specs.State.{kept_state}
 use Rattle.sota_app.specs.Inputs.{lines_of}
+use Rattle.sota_app.specs.Work.{work}
+use Rattle.sota_app.proofs.Worked.{line_worked}
 use Rattle.sota_app.specs.declared.stop.Stop.{Stop}
 use Rattle.sota_app.specs.declared.stop.Stop.TheVariants as stops
 use Rattle.sota_app.proofs.Made.{nothing_made}
@@ -33,6 +36,10 @@ loop-line-init g c = record {
   desk = refl;
   sink = refl;
   pushes = refl;
+  work = ap (λ (lines : List ScriptLine). c.args.self.now.pushes.now
+      + work c.args.self.now.session.now.network lines (kept_state c.args.self.now.session.now))
+      (rw c.into_iter-line-iterator.ensures.into_iter_gives
+      (all_lines _ _ c.new-line-items.ensures.texts));
   reached = reach_none _ _ _;
 }
 
@@ -85,6 +92,10 @@ loop-line-preserved g c =
       desk = search rules;
       sink = search rules;
       pushes = search rules;
+      work = line_worked _ _ (line_at bytes c.in-Some.line) (map (line_at bytes) c.next.new.self) _ _ _ _ _
+          (rw c.in-Some.ensures.steps at c.loop-line.invariant.work)
+          c.in_ok-reply-in-Text.ensures.effort
+          (ap (λ step. step.next) c.in_ok-reply-in-Text.ensures.reply);
       reached = rw map-append (reach_more (map (line_at bytes) c.loop-line.yielded)
           (line_at bytes c.in-Some.line) _ _ _ c.loop-line.refused
           c.in_ok-refused-in-Text.field-0 c.in_ok-reply-in-Text.reply _ _ _ _ _ _
@@ -92,3 +103,16 @@ loop-line-preserved g c =
           c.in_ok-reply-in-Text.ensures.reply c.in_ok-refused-in-Text.ensures.made
           c.in_ok-refused-in-Text.ensures.refused);
     }
+
+pub returns-in-None-clause-count : goal.returns-in-None-clause-count
+returns-in-None-clause-count g c =
+    let bytes = c.as_slice-bytes.result.now in
+    let net = c.args.self.now.session.now.network in
+    let kept = kept_state c.args.self.now.session.now in
+    let all : script_lines bytes ≡ lines_of c.args.script.now = search rules in
+    let over : c.loop-line.line-iterator ≡ [] = search rules in
+    let none : work c.loop-line.self.session.now.network (map (line_at bytes) c.loop-line.line-iterator)
+    (kept_state c.loop-line.self.session.now) ≡ 0 = rw over refl in
+    let same : work net (script_lines bytes) kept ≡ work net (lines_of c.args.script.now) kept =
+    ap (λ (lines : List ScriptLine). work net lines kept) all in
+    omega (arith, c.loop-line.invariant.work, none, same)

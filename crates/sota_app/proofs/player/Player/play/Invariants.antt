@@ -1,7 +1,9 @@
-use Rattle.std.proofs.Common.{◌≡◌, ◌++◌, map}
+use Rattle.std.proofs.Common.{◌≡◌, ◌+◌, ◌++◌, map}
 use Rattle.sota_text.specs.Spans.{AreWithin}
 use Rattle.sota_text.specs.declared.span.Line.{Line}
+use Rattle.sota_session.specs.State.{kept_state}
 use Rattle.sota_app.specs.Script.{script_lines}
+use Rattle.sota_app.specs.Work.{work}
 use Rattle.sota_app.proofs.Reaches.{Reached}
 use Rattle.sota_app.proofs.Lines.{line_at}
 use Rattle.sota_app.proofs.player.Player.play.Given as goal
@@ -15,6 +17,11 @@ invariant-loop-line g l = record {
   desk : l.self.desk.ghost_name ≡ l.fn.self.desk.ghost_name;
   sink : l.self.out.ghost_name ≡ l.fn.self.out.ghost_name;
   pushes : l.self.pushes.ghost_name ≡ l.fn.self.pushes.ghost_name;
+  work : l.fn.self.pushes.now
+      + work l.fn.self.session.now.network (script_lines l.bytes) (kept_state l.fn.self.session.now)
+      ≡ l.self.pushes.now
+      + work l.self.session.now.network (map (line_at l.bytes) l.line-iterator)
+      (kept_state l.self.session.now);
   reached : Reached (map (line_at l.bytes) l.yielded) l.fn.self.session.now.network
       l.self.session.now.network l.refused
       (g.D.Desk.state l.fn.self.desk.now) (g.D.Desk.state l.self.desk.now)
