@@ -53,6 +53,14 @@ policies_are_none : (net : Net) (number : ℕ) (numbers : Ask3) (name : List ℕ
 policies_are_none net number numbers name ask answer None e = cc
 policies_are_none net number numbers name ask answer (Some refusal) e = cc
 
+routes_are_none : (net : Net) (number dest budget : ℕ) (arcs : List ℕ) (ask : Ask)
+    (answer : Answer) (refusal : Option Refusal)
+    → reply_unless refusal net number (commands.Route dest budget arcs)
+    ≡ Some (replies.Answered ask answer)
+    → ⊥
+routes_are_none net number dest budget arcs ask answer None e = cc
+routes_are_none net number dest budget arcs ask answer (Some refusal) e = cc
+
 asks_are : (net : Net) (number : ℕ) (numbers : Ask3) (ask : Ask) (answer : Answer)
     (fault : Option AskFault) → ask_fault net (session_ask numbers) ≡ fault
     → reply_unless (option_map (λ fault. refusals.Ask fault) fault) net number
@@ -78,6 +86,9 @@ answers_ask net number (Ok (Some (commands.Close arc))) ask answer e =
 answers_ask net number (Ok (Some (commands.Policy numbers name))) ask answer e =
     absurd (policies_are_none net number numbers name ask answer
     (command_refusal net (commands.Policy numbers name)) e)
+answers_ask net number (Ok (Some (commands.Route dest budget arcs))) ask answer e =
+    absurd (routes_are_none net number dest budget arcs ask answer
+    (command_refusal net (commands.Route dest budget arcs)) e)
 answers_ask net number (Ok (Some (commands.Ask numbers))) ask answer e =
     asks_are net number numbers ask answer (ask_fault net (session_ask numbers)) refl e
 

@@ -110,6 +110,9 @@ line_keeps built kept net number (Ok (Some (commands.Ask ask))) valid =
 line_keeps built kept net number (Ok (Some (commands.Policy ask name))) valid =
     refused_keeps (command_refusal net (commands.Policy ask name)) net number
     (effect_of net (commands.Policy ask name)) valid (λ accepted. valid)
+line_keeps built kept net number (Ok (Some (commands.Route dest budget arcs))) valid =
+    refused_keeps (command_refusal net (commands.Route dest budget arcs)) net number
+    (effect_of net (commands.Route dest budget arcs)) valid (λ accepted. valid)
 
 pub keeps_network : Built → Kept → (lines : List ScriptLine) (net : Net) → IsNet net
     → IsNet (network_after net lines)

@@ -70,7 +70,7 @@ pub fn show_plan<O: Sink, M: Ledger, P: Ledger>(
     }
 }
 
-/// The answer of an ask, and its policy. The session stays as it is.
+/// The answer of an ask, and its policy. The network of the session stays as it is.
 fn make_plan<M: Ledger, P: Ledger>(
     session: &mut Session,
     ask: &Ask,
@@ -80,7 +80,7 @@ fn make_plan<M: Ledger, P: Ledger>(
     ensures plan { Answers asks.is_shortage result (plan_result session.old.network ask.now) }
     ensures holds { IfOk result (λ _. HoldsUnlessRefused session.old.network ask.now) }
     ensures few { IfOk result (λ plan. cells plan.table ≤ TABLE_LIMIT) }
-    ensures kept { session.new ≡ session.old }
+    ensures kept { session.new.network ≡ session.old.network }
 {
     let answer = session.ask(*ask, products, pushes)?;
     let table = session.policy(*ask, products, pushes)?;
