@@ -107,14 +107,18 @@ words_outcome None files d e s t is wrote same = record {
 }
 
 -- what is done stands
-pub done_stands : (o : Option Request) (files : Files) (d e : DeskState) (s t : SinkState)
-    → d.holds ≡ Some files → Cause Done o d e s t → Delivered (outcome_of o files) Done d e s t
-done_stands o files d e s t tells cause = at_files d.holds files _ tells (some_request o _ cause)
+pub done_stands : (status : Status) (o : Option Request) (files : Files) (d e : DeskState)
+    (s t : SinkState) → status ≡ Done → d.holds ≡ Some files → Cause status o d e s t
+    → Delivered (outcome_of o files) Done d e s t
+done_stands status o files d e s t is tells cause =
+    at_files d.holds files _ tells
+    (some_request o _ (subst (λ (status : Status). Cause status o d e s t) is cause))
 
 pub exact : (result : Status) (o : Option Request) (files : Files) (d e : DeskState)
     (s t : SinkState) → d.holds ≡ Some files → NoFault d e s t → result ≢ NoMemory
     → Cause result o d e s t → Delivered (outcome_of o files) result d e s t
-exact Done o files d e s t tells none ran cause = done_stands o files d e s t tells cause
+exact Done o files d e s t tells none ran cause =
+    at_files d.holds files _ tells (some_request o _ cause)
 exact SomeRefused o files d e s t tells none ran cause =
     at_files d.holds files _ tells (some_request o _ cause)
 exact Input o files d e s t tells none ran cause =

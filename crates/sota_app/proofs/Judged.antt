@@ -1,10 +1,10 @@
 -- A policy that was judged: where all is done, it was accepted.
-use Rattle.std.proofs.Common.{◌≡◌, ◌++◌, ℕ, zero, suc, List, [], Option, Some, None, Result, Ok}
+use Rattle.std.proofs.Common.{◌≡◌, ℕ, zero, suc, List, Option, Some, None, Ok}
 use Rattle.std.proofs.Common.{refl, ap, ◌∙◌, subst, append-nil, arith}
 use Rattle.rand_pcg.specs.Lcg.{Lcg}
 use Rattle.sota_edge.specs.Desk.{Files, DeskState}
 use Rattle.sota_edge.specs.Sink.{SinkState, Wrote}
-use Rattle.sota_network.specs.Network.{Net, IsNet}
+use Rattle.sota_network.specs.Network.{Net}
 use Rattle.sota_polfile.specs.Table.{Table}
 use Rattle.sota_check.specs.Rejected.{rejection}
 use Rattle.sota_check.specs.declared.verdict.Rejection.{Rejection}

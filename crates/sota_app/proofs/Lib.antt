@@ -14,4 +14,5 @@ pub mod Sized
 pub mod PlanCells
 pub mod ShownPlan
 pub mod ThreeLines
+pub mod MeantBounds
 pub mod Prefixes

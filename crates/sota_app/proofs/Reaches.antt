@@ -169,16 +169,19 @@ stops_among stop before line after net d e s t stopped =
     (outputs_of (replies_to (network_after net (before ++ line ∷ [])) after)) d e s t stopped)
 
 -- the making of the output of a line stopped
-pub stops_at : (stop : Stop) (before : List ScriptLine) (line : ScriptLine)
+pub stops_at : (stop : Stop) (lines before : List ScriptLine) (line : ScriptLine)
     (after : List ScriptLine) (net now next : Net) (refused : Bool) (reply : Option Reply)
-    (d m e : DeskState) (s u t : SinkState) → Reached before net now refused d m s u
+    (d m e : DeskState) (s u t : SinkState) → lines ≡ before ++ line ∷ after
+    → Reached before net now refused d m s u
     → record { reply = reply; next = next } ≡ step now line
     → Stopped stop (outputs_of (option_to_list reply)) m e u t
-    → Stopped stop (outputs_to net (before ++ line ∷ after)) d e s t
-stops_at stop before line after net now next refused reply d m e s u t reached stepped stopped =
-    stops_among stop before line after net d e s t
+    → Stopped stop (outputs_to net lines) d e s t
+stops_at stop lines before line after net now next refused reply d m e s u t are reached stepped
+    stopped =
+    subst (λ (lines : List ScriptLine). Stopped stop (outputs_to net lines) d e s t) (sym are)
+    (stops_among stop before line after net d e s t
     (line_made (stopped_by Bool stop) before line net now next refused reply
-    d m e s u t reached stepped stopped)
+    d m e s u t reached stepped stopped))
 
 -- it stopped before anything was made of a line
 pub stops_before : (stop : Stop) (before rest : List ScriptLine) (net now : Net) (refused : Bool)

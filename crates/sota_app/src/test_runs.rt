@@ -47,7 +47,7 @@ refused 1 Budget
 > ask triangle times 1 3
 refused words
 = 2
->
+>\x20
 refused words
 = 2
 > ask triangle - 1 3 4294967296

@@ -133,14 +133,57 @@ fn push_run(text: &mut TextOut, written: &[u8], status: Status) -> Result<(), Fa
     Ok(())
 }
 
+/// The number before the first space, and what is after it.
+fn number_and_rest(line: &str) -> Option<(u32, &str)> {
+    let (number, rest) = line.split_once(' ')?;
+    Some((read_u32(number.as_bytes())?, rest))
+}
+
+/// Calls that fail, and words that are run.
+#[derive(Drop)]
+struct Faulty<'a> {
+    call: u32,
+    put: u32,
+    chunk: u32,
+    words: &'a str,
+}
+
+/// The words after the numbers of the calls that fail.
+fn read_faulty(line: &str) -> Option<Faulty<'_>> {
+    let (call, line) = number_and_rest(line)?;
+    let (put, line) = number_and_rest(line)?;
+    let (chunk, words) = number_and_rest(line)?;
+    Some(Faulty {
+        call,
+        put,
+        chunk,
+        words,
+    })
+}
+
+/// Appends what words write where these calls fail, and their status.
+fn run_faulty(alloc: Global, faulty: &Faulty<'_>, text: &mut TextOut) -> Result<(), Fail> {
+    let mut desk = Desks::new(alloc, faulty.call)?.memory;
+    let mut out = MemorySink::new(alloc, faulty.chunk.max(1), [faulty.put].to_vec(alloc)?);
+    let status = run_line(alloc, faulty.words, &mut desk, &mut out)?;
+    push_run(text, out.written(), status)?;
+    if desk.held("p").is_some() {
+        text.bytes(b" p")?;
+    }
+    Ok(())
+}
+
 /// The first run of a transcript that does not go as it says.
 fn first_wrong(desks: &mut Desks, transcript: &'static str) -> Result<Option<&'static str>, Fail> {
     let mut text = TextOut::new(desks.alloc);
     for line in transcript.lines() {
-        if let Some(words) = line.strip_prefix(">") {
+        if let Some(words) = line.strip_prefix("> ") {
             text.bytes(line.as_bytes())?;
             text.bytes(b"\n")?;
-            desks.run(words, &mut text)?;
+            match read_faulty(words) {
+                Some(faulty) => run_faulty(desks.alloc, &faulty, &mut text)?,
+                None => desks.run(words, &mut text)?,
+            }
             text.bytes(b"\n")?;
             if !transcript.as_bytes().starts_with(text.as_bytes()) {
                 return Ok(Some(line));
@@ -159,50 +202,10 @@ fn runs(rt: HostRuntime) -> Result<(), Fail> {
     Ok(())
 }
 
-/// The number before the first space, and what is after it.
-fn number_and_rest(line: &str) -> Option<(u32, &str)> {
-    let (number, rest) = line.split_once(' ')?;
-    Some((read_u32(number.as_bytes())?, rest))
-}
-
-/// Appends what words write where calls fail whose numbers stand before them, and their status.
-fn run_with_faults(alloc: Global, line: &str, text: &mut TextOut) -> Result<(), Fail> {
-    let (call, line) = number_and_rest(line).ok_or("the call of the desk")?;
-    let (put, line) = number_and_rest(line).ok_or("the put")?;
-    let (chunk, words) = number_and_rest(line).ok_or("the most bytes")?;
-    let mut desk = Desks::new(alloc, call)?.memory;
-    let mut out = MemorySink::new(alloc, chunk.max(1), [put].to_vec(alloc)?);
-    let status = run_line(alloc, words, &mut desk, &mut out)?;
-    push_run(text, out.written(), status)?;
-    if desk.held("p").is_some() {
-        text.bytes(b" p")?;
-    }
-    Ok(())
-}
-
-/// The first run of a transcript with faults that does not go as it says.
-fn first_wrong_fault(
-    alloc: Global,
-    transcript: &'static str,
-) -> Result<Option<&'static str>, Fail> {
-    let mut text = TextOut::new(alloc);
-    for line in transcript.lines() {
-        if let Some(words) = line.strip_prefix("> ") {
-            text.bytes(line.as_bytes())?;
-            text.bytes(b"\n")?;
-            run_with_faults(alloc, words, &mut text)?;
-            text.bytes(b"\n")?;
-            if !transcript.as_bytes().starts_with(text.as_bytes()) {
-                return Ok(Some(line));
-            }
-        }
-    }
-    Ok(None)
-}
-
 #[test]
 fn each_call_fails(rt: HostRuntime) -> Result<(), Fail> {
-    assert_eq!(rt; first_wrong_fault(rt.alloc(), FAULTS)?, None);
+    let mut desks = Desks::new(rt.alloc(), 0)?;
+    assert_eq!(rt; first_wrong(&mut desks, FAULTS)?, None);
     Ok(())
 }
 

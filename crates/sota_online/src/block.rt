@@ -196,9 +196,9 @@ fn smallest_square(masses: &[u32]) -> (u32, usize)
 {
     let near = masses.len().min(127);
     let few = 4 * some_masses(&masses[..near]) < near;
-    if few && masses.len() >= 64 {
+    if few && masses.len() >= 256 {
         (5, 32)
-    } else if masses.len() >= 300 {
+    } else if masses.len() >= 512 {
         (7, 128)
     } else {
         (9, 512)

@@ -1,5 +1,5 @@
 -- Tables that are cut for an edit.
-use Rattle.std.proofs.Common.{ℕ, zero, suc, ◌≡◌, ◌≢◌, ◌+◌, ◌-◌, ◌<◌, ◌≤◌, min, List, length, get_or, set, slice_get, Option, None, Some, refl, sym, ◌∙◌, ap, arith, subst, ⊎_elim, inl, inr, ◌⊎◌}
+use Rattle.std.proofs.Common.{ℕ, zero, suc, ◌≡◌, ◌≢◌, ◌+◌, ◌-◌, ◌<◌, ◌≤◌, min, List, length, get_or, set, Option, None, Some, refl, sym, ◌∙◌, ap, arith, subst, ⊎_elim}
 use Rattle.std.proofs.lemmas.Bool.{cases_eq}
 use Rattle.std.proofs.lemmas.List.{ext_get_or, set-get_or}
 use Rattle.std.proofs.lemmas.Option.{none-some, get_or_from_slice_get}
@@ -13,7 +13,7 @@ use Rattle.sota_kept.specs.States.{after_edit}
 use Rattle.sota_kept.specs.TableLists.{TableLists, IsKept, EntriesKept, state_of, table_of}
 use Rattle.sota_bounds.specs.Search.{time_at}
 use Rattle.sota_tables.specs.Views.{TablesView, HasNode, OnlyAt, SameNodes, lists_of, table_at}
-use Rattle.sota_session.specs.Cuts.{HasCuts, AreCuts, IsCutFor}
+use Rattle.sota_session.specs.Cuts.{HasCuts, IsCutFor}
 use Rattle.sota_session.specs.State.{changed_state, edited_state, state_edited}
 
 -- ---- a loop over the nodes: so many are cut, and the others are as before

@@ -1,8 +1,8 @@
 -- The tables after the last step of an ask.
 use Rattle.std.proofs.Common.{ℕ, ◌≡◌, ◌≢◌, ◌<◌, ◌≤◌, max, true, false, List, length, Option, None, Some, IsSome, refl, sym, ◌∙◌, ap, arith, subst, ⊎_elim}
-use Rattle.std.proofs.lemmas.Bool.{cases_eq, eq-eqb, ne_eqb, eqb-false, true≢false}
-use Rattle.sota_units.specs.Rounding.{ONE, floor_by, ceiling_by}
-use Rattle.sota_network.specs.Network.{Net, IsNet, IsNode}
+use Rattle.std.proofs.lemmas.Bool.{cases_eq, eq-eqb, ne_eqb, true≢false}
+use Rattle.sota_units.specs.Rounding.{floor_by, ceiling_by}
+use Rattle.sota_network.specs.Network.{Net, IsNode}
 use Rattle.sota_network.specs.Grid.{lo, hi, choice, value_from}
 use Rattle.sota_network.specs.Region.{need}
 use Rattle.sota_kept.specs.Laws.{ListLaws}
@@ -14,7 +14,7 @@ use Rattle.sota_bounds.specs.Cells.{need_at}
 use Rattle.sota_bounds.specs.Regions.{IsRegion}
 use Rattle.sota_bounds.specs.declared.ask.AskRegion.{AskRegion}
 use Rattle.sota_tables.specs.Views.{TablesView, HasNode, IsKnownAt, is_at_dest, lists_of, table_at, lower_at, upper_at, choice_in}
-use Rattle.sota_session.specs.Rows.{Agrees, IsPlanned}
+use Rattle.sota_session.specs.Rows.{IsPlanned}
 
 -- the last step was taken, in tables that were ready for it, with the laws that say what this means
 pub record HasGrown (net : Net) (region : AskRegion) (mid new : TablesView) : Type 0 where

@@ -4,7 +4,7 @@ use Rattle.std.proofs.lemmas.List.{ext_get_or}
 use Rattle.sota_network.specs.Numbers.{listed}
 use Rattle.sota_kept.specs.Laws.{ListLaws}
 use Rattle.sota_kept.specs.Ticks.{END_LIMIT}
-use Rattle.sota_kept.specs.States.{State, first_state}
+use Rattle.sota_kept.specs.States.{first_state}
 
 -- a list by its items
 items-listed : ListLaws → (xs : List ℕ) (f : ℕ → ℕ) (n : ℕ) → length xs ≡ n → ((i : ℕ) → 1 ≤ i → i ≤ n → get_or xs (i - 1) 0 ≡ f i) → xs ≡ listed f n

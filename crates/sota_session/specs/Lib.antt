@@ -5,3 +5,4 @@ pub mod Words
 pub mod Plans
 pub mod Rows
 pub mod Cuts
+pub mod Worked

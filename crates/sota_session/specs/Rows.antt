@@ -1,14 +1,14 @@
 -- What is planned for an ask, and the rows out of it.
-use Rattle.std.specs.Prelude.{ℕ, ◌≡◌, ◌≤◌, ◌<◌, ◌-◌, nat_lt, length, map, Option}
+use Rattle.std.specs.Prelude.{ℕ, ◌≡◌, ◌<◌, ◌-◌, nat_lt, length, map, Option}
 use Rattle.std.specs.Prelude.{Some, None, unwrap_or, if◌then◌else◌}
 use Rattle.std.specs.List.{range_with_len}
-use Rattle.sota_network.specs.Network.{Net, IsNode}
+use Rattle.sota_network.specs.Network.{Net}
 use Rattle.sota_network.specs.Grid.{lo, hi, choice}
 use Rattle.sota_bounds.specs.Search.{time_at}
 use Rattle.sota_bounds.specs.Cells.{need_at}
 use Rattle.sota_bounds.specs.Regions.{IsRegion}
 use Rattle.sota_bounds.specs.declared.ask.AskRegion.{AskRegion}
-use Rattle.sota_tables.specs.Views.{TablesView, IsTablesView, HasNode, IsKnownAt, lower_at, upper_at}
+use Rattle.sota_tables.specs.Views.{TablesView, HasNode, IsKnownAt, lower_at, upper_at}
 use Rattle.sota_tables.specs.Views.{choice_in}
 use Rattle.sota_polfile.specs.declared.entry.PolicyEntry.{PolicyEntry}
 use Rattle.sota_polfile.specs.declared.row.PolicyRow.{PolicyRow}

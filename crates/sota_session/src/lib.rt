@@ -5,6 +5,8 @@ mod ask;
 mod cut;
 mod edit;
 pub mod laws;
+#[cfg(test)]
+mod long_tests;
 mod plan;
 mod policy;
 mod session;

@@ -59,7 +59,12 @@ fn ask_counted<M: Ledger, P: Ledger>(
 }
 
 /// The answer to an ask.
-fn ask(session: &mut Session, origin: u32, dest: u32, budget: u32) -> Result<Answer, AskFault> {
+pub(crate) fn ask(
+    session: &mut Session,
+    origin: u32,
+    dest: u32,
+    budget: u32,
+) -> Result<Answer, AskFault> {
     let ask = Ask {
         origin: NodeId(origin),
         dest: NodeId(dest),
@@ -214,7 +219,7 @@ const TRIANGLE: [u32; 26] = [
     0xd3b2_0000,
 ];
 
-// One road of 5 ticks that is always in time.
+// One road of 5 ticks is always in time. Who is there already, or cannot be in time, has no row.
 const SURE: [u32; 14] = [
     0x534f_5441,
     0x504f_4c31,
@@ -232,7 +237,6 @@ const SURE: [u32; 14] = [
     0xa764_0000,
 ];
 
-// Who is there already, or cannot be in time, has no row.
 const THERE: [u32; 8] = [0x534f_5441, 0x504f_4c31, 2, 2, 2, 5, 1, 0];
 
 const LATE: [u32; 8] = [0x534f_5441, 0x504f_4c31, 2, 2, 1, 4, 1, 0];
@@ -246,27 +250,32 @@ fn bytes_of(alloc: Global, numbers: &[u32]) -> Result<Vec<u8>, NoMemory> {
     Ok(bytes)
 }
 
+/// The policy of an ask has these bytes.
+fn same_policy(
+    rt: &impl Abort,
+    alloc: Global,
+    session: &mut Session,
+    ask: (u32, u32, u32),
+    numbers: &[u32],
+) -> Result<(), Fail> {
+    let file = policy(alloc, session, ask).ok().ok_or("a policy")?;
+    let bytes = bytes_of(alloc, numbers)?;
+    assert!(rt; file.as_slice() == bytes.as_slice());
+    Ok(())
+}
+
 #[test]
 fn policies(rt: HostRuntime) -> Result<(), Fail> {
-    let alloc = rt.alloc();
-    let mut session = Session::new(alloc, triangle(alloc)?)?;
-    let file = policy(alloc, &mut session, (1, 3, 3))?;
-    assert!(rt; file.as_slice() == bytes_of(alloc, &TRIANGLE)?.as_slice());
-    let mut session = Session::new(alloc, one_road(alloc, 5)?)?;
-    let files = [
-        ((1, 2, 5), SURE.as_slice()),
-        ((2, 2, 5), THERE.as_slice()),
-        ((1, 2, 4), LATE.as_slice()),
-    ];
-    for (ask, numbers) in files {
-        let file = policy(alloc, &mut session, ask)?;
-        assert!(rt; file.as_slice() == bytes_of(alloc, numbers)?.as_slice());
-    }
-    assert_eq!(rt;
-        policy(alloc, &mut session, (1, 3, 5)).err(),
-        Some(AskFault::NoDest)
-    );
-    Ok(())
+    let mut session = Session::new(rt.alloc(), triangle(rt.alloc())?)?;
+    same_policy(&rt, rt.alloc(), &mut session, (1, 3, 3), &TRIANGLE)
+}
+
+#[test]
+fn policies_of_one_arc(rt: HostRuntime) -> Result<(), Fail> {
+    let mut session = Session::new(rt.alloc(), one_road(rt.alloc(), 5)?)?;
+    same_policy(&rt, rt.alloc(), &mut session, (1, 2, 5), &SURE)?;
+    same_policy(&rt, rt.alloc(), &mut session, (2, 2, 5), &THERE)?;
+    same_policy(&rt, rt.alloc(), &mut session, (1, 2, 4), &LATE)
 }
 
 #[test]
@@ -281,6 +290,8 @@ fn refused_asks(rt: HostRuntime) -> Result<(), Fail> {
     for (origin, dest, budget, fault) in refused {
         assert_eq!(rt; ask(&mut session, origin, dest, budget), Err(fault));
     }
+    let refused = policy(rt.alloc(), &mut session, (1, 3, 5)).err();
+    assert_eq!(rt; refused, Some(AskFault::NoDest));
     Ok(())
 }
 

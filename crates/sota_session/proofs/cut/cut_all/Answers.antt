@@ -1,4 +1,4 @@
-use Rattle.std.proofs.Common.{ℕ, ◌≡◌, ◌<◌, length, ap, arith}
+use Rattle.std.proofs.Common.{◌<◌, length, ap, arith}
 use Rattle.sota_session.proofs.Cutting.{cut-one}
 use Rattle.sota_session.proofs.cut.cut_all.Goals as goal
 

@@ -1,11 +1,6 @@
-use Rattle.std.proofs.Common.{◌≡◌, sym, subst, ap}
 use Rattle.sota_network.specs.Network.{Net}
-use Rattle.sota_kept.specs.TableLists.{state_of}
-use Rattle.sota_kept.specs.States.{grown_state}
 use Rattle.sota_bounds.specs.declared.ask.AskRegion.{AskRegion}
-use Rattle.sota_tables.specs.Views.{table_at, lists_of}
-use Rattle.sota_plan.specs.Runs.{IsReady}
-use Rattle.sota_session.proofs.Growing.{HasGrown, planned}
+use Rattle.sota_session.proofs.Growing.{planned}
 use Rattle.sota_session.proofs.plan.grow.Goals as goal
 
 pub returns-clause-planned : goal.returns-clause-planned

@@ -1,4 +1,3 @@
-use Rattle.std.proofs.Common.{rules, ℕ, ◌≡◌, sym}
 use Rattle.sota_tables.specs.Views.{lists_of}
 use Rattle.sota_session.specs.State.{IsLeft}
 use Rattle.sota_session.proofs.Results.{on-err}

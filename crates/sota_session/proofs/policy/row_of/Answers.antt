@@ -1,4 +1,3 @@
-use Rattle.std.proofs.Common.{ℕ, ◌≡◌}
 use Rattle.sota_session.proofs.policy.row_of.Goals as goal
 
 pub entries_of-requires-clause-known : goal.entries_of-requires-clause-known

@@ -1,4 +1,4 @@
-use Rattle.std.proofs.Common.{rules, ◌≡◌, [], map, List, Err, refl, sym, ◌∙◌, subst}
+use Rattle.std.proofs.Common.{rules, ◌≡◌, [], map, List, Err, refl, sym, ap, ◌∙◌, subst}
 use Rattle.std.proofs.lemmas.List.{map-append}
 use Rattle.sota_edge.specs.Desk.{DeskState}
 use Rattle.sota_edge.specs.Sink.{SinkState}
@@ -63,59 +63,32 @@ returns-in_err-refused-in-Text-clause-made g c =
     let bytes = c.as_slice-bytes.result.now in
     let lines = rw c.in-Some.ensures.steps at c.loop-line.invariant.lines in
     let all : script_lines bytes ≡ lines_of c.args.script.now = search rules in
-    let d : DeskState = g.D.Desk.state c.args.self.now.desk.now in
-    let m : DeskState = g.D.Desk.state c.loop-line.self.desk.now in
-    let n : DeskState = g.D.Desk.state c.reply_to_line.new.self.desk.now in
-    let e : DeskState = g.D.Desk.state c.make_reply-in-loop-line.new.desk in
-    let s : SinkState = g.O.Sink.state c.args.self.now.out.now in
-    let u : SinkState = g.O.Sink.state c.loop-line.self.out.now in
-    let v : SinkState = g.O.Sink.state c.reply_to_line.new.self.out.now in
-    let t : SinkState = g.O.Sink.state c.make_reply-in-loop-line.new.out in
-    let desk : n ≡ m = search rules in
-    let sink : v ≡ u = search rules in
-    let net = c.args.self.now.session.now.network in
-    let now = c.loop-line.self.session.now.network in
-    let before = map (line_at bytes) c.loop-line.yielded in
     let stop : Stop = c.in_err-refused-in-Text.field-0.0 in
     let is : c.from_residual-in_err-refused-in-Text.result ≡ Err stop = search rules in
-    rw is (subst (λ (lines : List ScriptLine). Stopped stop (outputs_to net lines) d e s t)
-    (sym lines ∙ all)
-    (stops_at stop before (line_at bytes c.in-Some.line) (map (line_at bytes) c.next.new.self)
-    net now c.reply_to_line.new.self.session.now.network c.loop-line.refused
-    c.in_ok-reply-in-Text.reply d n e s v t
-    (still_reached before net now c.loop-line.refused d m n s u v desk sink
-    c.loop-line.invariant.reached)
-    c.in_ok-reply-in-Text.ensures.reply c.in_err-refused-in-Text.ensures.made))
+    let desk = ap (λ desk. g.D.Desk.state desk.now) c.reply_to_line.ensures.desk in
+    let sink = ap (λ sink. g.O.Sink.state sink.now) c.reply_to_line.ensures.sink in
+    rw is (stops_at stop (lines_of c.args.script.now) (map (line_at bytes) c.loop-line.yielded)
+    (line_at bytes c.in-Some.line) (map (line_at bytes) c.next.new.self) _ _ _
+    c.loop-line.refused c.in_ok-reply-in-Text.reply _ _ _ _ _ _ (sym all ∙ lines)
+    (still_reached _ _ _ _ _ _ _ _ _ _ desk sink c.loop-line.invariant.reached)
+    c.in_ok-reply-in-Text.ensures.reply c.in_err-refused-in-Text.ensures.made)
 
 pub loop-line-preserved : goal.loop-line-preserved
 loop-line-preserved g c =
     let bytes = c.as_slice-bytes.result.now in
-    let lines = rw c.in-Some.ensures.steps at c.loop-line.invariant.lines in
-    let within = rw c.in-Some.ensures.steps at c.loop-line.invariant.within in
-    let d : DeskState = g.D.Desk.state c.args.self.now.desk.now in
-    let m : DeskState = g.D.Desk.state c.loop-line.self.desk.now in
-    let n : DeskState = g.D.Desk.state c.reply_to_line.new.self.desk.now in
-    let e : DeskState = g.D.Desk.state c.make_reply-in-loop-line.new.desk in
-    let s : SinkState = g.O.Sink.state c.args.self.now.out.now in
-    let u : SinkState = g.O.Sink.state c.loop-line.self.out.now in
-    let v : SinkState = g.O.Sink.state c.reply_to_line.new.self.out.now in
-    let t : SinkState = g.O.Sink.state c.make_reply-in-loop-line.new.out in
-    let desk : n ≡ m = search rules in
-    let sink : v ≡ u = search rules in
-    let net = c.args.self.now.session.now.network in
-    let now = c.loop-line.self.session.now.network in
-    let before = map (line_at bytes) c.loop-line.yielded in
+    let desk = ap (λ desk. g.D.Desk.state desk.now) c.reply_to_line.ensures.desk in
+    let sink = ap (λ sink. g.O.Sink.state sink.now) c.reply_to_line.ensures.sink in
     record {
-      within = within.1;
-      lines = line_played bytes c.loop-line.yielded c.in-Some.line c.next.new.self _ lines;
+      within = (rw c.in-Some.ensures.steps at c.loop-line.invariant.within).1;
+      lines = line_played bytes c.loop-line.yielded c.in-Some.line c.next.new.self _
+          (rw c.in-Some.ensures.steps at c.loop-line.invariant.lines);
       desk = search rules;
       sink = search rules;
       pushes = search rules;
-      reached = rw map-append (reach_more before (line_at bytes c.in-Some.line) net now
-          c.reply_to_line.new.self.session.now.network c.loop-line.refused
-          c.in_ok-refused-in-Text.field-0 c.in_ok-reply-in-Text.reply d n e s v t
-          (still_reached before net now c.loop-line.refused d m n s u v desk sink
-          c.loop-line.invariant.reached)
+      reached = rw map-append (reach_more (map (line_at bytes) c.loop-line.yielded)
+          (line_at bytes c.in-Some.line) _ _ _ c.loop-line.refused
+          c.in_ok-refused-in-Text.field-0 c.in_ok-reply-in-Text.reply _ _ _ _ _ _
+          (still_reached _ _ _ _ _ _ _ _ _ _ desk sink c.loop-line.invariant.reached)
           c.in_ok-reply-in-Text.ensures.reply c.in_ok-refused-in-Text.ensures.made
           c.in_ok-refused-in-Text.ensures.refused);
     }

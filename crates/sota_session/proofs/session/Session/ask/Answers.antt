@@ -1,4 +1,4 @@
-use Rattle.std.proofs.Common.{rules, ◌≡◌, ◌+◌, subst}
+use Rattle.std.proofs.Common.{◌≡◌, ◌+◌, subst}
 use Rattle.sota_kept.specs.TableLists.{state_of}
 use Rattle.sota_tables.specs.Views.{lists_of}
 use Rattle.sota_session.specs.State.{SessionState, kept_state, state_after, pushes_for, IsLeft}

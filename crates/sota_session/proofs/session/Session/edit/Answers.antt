@@ -2,7 +2,7 @@ use Rattle.std.proofs.Common.{ℕ, ◌≡◌, ◌≤◌, List, Option, None, Som
 use Rattle.std.specs.Option.{option_map}
 use Rattle.std.proofs.lemmas.Option.{none-some}
 use Rattle.sota_hist.specs.Time.{IsTime, total}
-use Rattle.sota_network.specs.Network.{Net, IsNet, arc_at, replaced}
+use Rattle.sota_network.specs.Network.{IsNet, arc_at, replaced}
 use Rattle.sota_kept.specs.TableLists.{IsKept, state_of}
 use Rattle.sota_tables.specs.Views.{TablesView, HasNode, SameNodes, lists_of, table_at}
 use Rattle.sota_kept.specs.Ticks.{END_LIMIT, up_to}

@@ -1,4 +1,4 @@
-use Rattle.std.proofs.Common.{ℕ, ◌≡◌, ◌≤◌, length, ◌∙◌, arith}
+use Rattle.std.proofs.Common.{◌≤◌, length, ◌∙◌, arith}
 use Rattle.sota_session.proofs.Started.{first-state}
 use Rattle.sota_session.proofs.session.Session.new.Goals as goal
 
