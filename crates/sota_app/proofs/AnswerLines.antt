@@ -61,6 +61,14 @@ routes_are_none : (net : Net) (number dest budget : ℕ) (arcs : List ℕ) (ask 
 routes_are_none net number dest budget arcs ask answer None e = cc
 routes_are_none net number dest budget arcs ask answer (Some refusal) e = cc
 
+needs_are_none : (net : Net) (number : ℕ) (numbers : Ask3) (confidence : ℕ) (ask : Ask)
+    (answer : Answer) (refusal : Option Refusal)
+    → reply_unless refusal net number (commands.Need numbers confidence)
+    ≡ Some (replies.Answered ask answer)
+    → ⊥
+needs_are_none net number numbers confidence ask answer None e = cc
+needs_are_none net number numbers confidence ask answer (Some refusal) e = cc
+
 asks_are : (net : Net) (number : ℕ) (numbers : Ask3) (ask : Ask) (answer : Answer)
     (fault : Option AskFault) → ask_fault net (session_ask numbers) ≡ fault
     → reply_unless (option_map (λ fault. refusals.Ask fault) fault) net number
@@ -89,6 +97,9 @@ answers_ask net number (Ok (Some (commands.Policy numbers name))) ask answer e =
 answers_ask net number (Ok (Some (commands.Route dest budget arcs))) ask answer e =
     absurd (routes_are_none net number dest budget arcs ask answer
     (command_refusal net (commands.Route dest budget arcs)) e)
+answers_ask net number (Ok (Some (commands.Need numbers confidence))) ask answer e =
+    absurd (needs_are_none net number numbers confidence ask answer
+    (command_refusal net (commands.Need numbers confidence)) e)
 answers_ask net number (Ok (Some (commands.Ask numbers))) ask answer e =
     asks_are net number numbers ask answer (ask_fault net (session_ask numbers)) refl e
 

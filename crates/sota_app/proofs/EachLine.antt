@@ -113,6 +113,9 @@ line_keeps built kept net number (Ok (Some (commands.Policy ask name))) valid =
 line_keeps built kept net number (Ok (Some (commands.Route dest budget arcs))) valid =
     refused_keeps (command_refusal net (commands.Route dest budget arcs)) net number
     (effect_of net (commands.Route dest budget arcs)) valid (λ accepted. valid)
+line_keeps built kept net number (Ok (Some (commands.Need ask confidence))) valid =
+    refused_keeps (command_refusal net (commands.Need ask confidence)) net number
+    (effect_of net (commands.Need ask confidence)) valid (λ accepted. valid)
 
 pub keeps_network : Built → Kept → (lines : List ScriptLine) (net : Net) → IsNet net
     → IsNet (network_after net lines)

@@ -11,8 +11,10 @@ use Rattle.sota_session.specs.declared.ask.Answer.{Answer}
 use Rattle.sota_session.specs.Answers as asks
 use Rattle.sota_session.specs.Words.{ask_word, ask_count, edit_word}
 use Rattle.sota_session.specs.declared.edit.EditFault.TheVariants as edits
+use Rattle.sota_quantile.specs.Faults as needs
 use Rattle.sota_route.specs.Faults as routes
 use Rattle.sota_app.specs.Outputs.{Output}
+use Rattle.sota_app.specs.declared.reply.Allowance.{Allowance}
 use Rattle.sota_app.specs.declared.reply.Bracket.{Bracket}
 use Rattle.sota_app.specs.declared.reply.NamedFile.{NamedFile}
 use Rattle.sota_app.specs.declared.reply.Reply.{Reply}
@@ -32,6 +34,7 @@ is_shortage (refusals.Edit edits.NoMemory) = true
 is_shortage (refusals.Edit fault) = false
 is_shortage (refusals.Ask fault) = asks.is_shortage fault
 is_shortage (refusals.Route fault) = routes.is_shortage fault
+is_shortage (refusals.Need fault) = needs.is_shortage fault
 
 abbrev pub refusal_word : Refusal → List ℕ
 refusal_word (refusals.Line fault) = lines.fault_word fault
@@ -39,25 +42,28 @@ refusal_word (refusals.Time fault) = time_words.fault_word fault
 refusal_word (refusals.Edit fault) = edit_word fault
 refusal_word (refusals.Ask fault) = ask_word fault
 refusal_word (refusals.Route fault) = routes.route_word fault
+refusal_word (refusals.Need fault) = needs.need_word fault
 
 -- the count that exceeds a limit of size, or the place in a route
 abbrev pub refusal_count : Refusal → Option ℕ
 refusal_count (refusals.Ask fault) = ask_count fault
 refusal_count (refusals.Route fault) = routes.route_number fault
+refusal_count (refusals.Need fault) = needs.need_count fault
 refusal_count _ = None
 
 -- ---- one reply
 
-abbrev pub arc_text : Option ℕ → List ℕ
-arc_text None = codes "-"
-arc_text (Some arc) = decimal arc
+-- a number, or a dash where there is none
+abbrev pub number_text : Option ℕ → List ℕ
+number_text None = codes "-"
+number_text (Some number) = decimal number
 
 -- 'answer O D T LOWER UPPER ARC'
 abbrev pub answer_line : Ask → Answer → List ℕ
 answer_line ask answer =
     codes "answer " ++ decimal ask.origin ++ codes " " ++ decimal ask.dest ++ codes " "
     ++ decimal ask.budget ++ codes " " ++ grain_spelling answer.lower ++ codes " "
-    ++ grain_spelling answer.upper ++ codes " " ++ arc_text answer.next ++ codes "\n"
+    ++ grain_spelling answer.upper ++ codes " " ++ number_text answer.next ++ codes "\n"
 
 -- 'edited ARC' and 'closed ARC'
 abbrev pub edited_line : ℕ → List ℕ
@@ -77,6 +83,14 @@ bracket_line bracket =
     ++ grain_spelling bracket.answer.lower ++ codes " " ++ grain_spelling bracket.answer.upper
     ++ codes " " ++ decimal bracket.arcs ++ codes "\n"
 
+-- 'need O D CONF TMAX EARLY SURE'
+abbrev pub allowance_line : Allowance → List ℕ
+allowance_line allowance =
+    codes "need " ++ decimal allowance.ask.origin ++ codes " " ++ decimal allowance.ask.dest
+    ++ codes " " ++ grain_spelling allowance.confidence ++ codes " "
+    ++ decimal allowance.ask.budget ++ codes " " ++ number_text allowance.need.early ++ codes " "
+    ++ number_text allowance.need.sure ++ codes "\n"
+
 abbrev pub count_text : Option ℕ → List ℕ
 count_text None = []
 count_text (Some count) = codes " " ++ decimal count
@@ -93,6 +107,7 @@ reply_line (replies.Edited arc) = edited_line arc
 reply_line (replies.Closed arc) = closed_line arc
 reply_line (replies.Stored file) = stored_line file.name
 reply_line (replies.Bracketed bracket) = bracket_line bracket
+reply_line (replies.Allowed allowance) = allowance_line allowance
 reply_line (replies.Refused line refusal) = refused_line line refusal
 
 -- the file that is stored before it

@@ -7,6 +7,9 @@ use Rattle.std.specs.Option.{option_or}
 use Rattle.sota_text.specs.Text.{numbered_lines}
 use Rattle.sota_hist.specs.Build.{at_most_fault, time_of}
 use Rattle.sota_network.specs.Network.{Net, arc_at, replaced}
+use Rattle.sota_network.specs.Grid.{lo, hi}
+use Rattle.sota_quantile.specs.Needs.{least_budget}
+use Rattle.sota_quantile.specs.Faults.{need_fault}
 use Rattle.sota_script.specs.Lines.{parse_line}
 use Rattle.sota_script.specs.declared.command.Ask3.{Ask3}
 use Rattle.sota_script.specs.declared.command.Command.{Command}
@@ -19,6 +22,7 @@ use Rattle.sota_route.specs.Bounds.{route_answer}
 use Rattle.sota_route.specs.Faults.{route_fault}
 use Rattle.sota_session.specs.declared.ask.Ask.{Ask}
 use Rattle.sota_session.specs.declared.edit.EditFault.TheVariants as edits
+use Rattle.sota_app.specs.declared.reply.Allowance.{Allowance}
 use Rattle.sota_app.specs.declared.reply.Bracket.{Bracket}
 use Rattle.sota_app.specs.declared.reply.NamedFile.{NamedFile}
 use Rattle.sota_app.specs.declared.reply.Reply.{Reply}
@@ -66,6 +70,8 @@ command_refusal net (commands.Ask ask) = ask_refusal net ask
 command_refusal net (commands.Policy ask name) = ask_refusal net ask
 command_refusal net (commands.Route dest budget arcs) =
     option_map (λ fault. refusals.Route fault) (route_fault net dest budget arcs)
+command_refusal net (commands.Need ask confidence) =
+    option_map (λ fault. refusals.Need fault) (need_fault net ask.origin ask.dest ask.budget)
 
 -- the policy of an ask under a name
 abbrev pub policy_file : Net → Ask3 → List ℕ → NamedFile
@@ -79,6 +85,18 @@ bracket_of net dest budget arcs = record {
   budget = budget;
   answer = route_answer net dest arcs budget;
   arcs = length arcs;
+}
+
+-- the time that one must allow for a confidence, by the two bounds of each budget of at most the
+-- ask's
+abbrev pub allowance_of : Net → Ask3 → ℕ → Allowance
+allowance_of net ask confidence = record {
+  ask = session_ask ask;
+  confidence = confidence;
+  need = record {
+    early = least_budget (hi net ask.dest ask.origin) confidence ask.budget;
+    sure = least_budget (lo net ask.dest ask.origin) confidence ask.budget;
+  };
 }
 
 -- the reply to a command that is not refused, and the network of the lines below it
@@ -101,6 +119,8 @@ effect_of net (commands.Policy ask name) = record {
 }
 effect_of net (commands.Route dest budget arcs) =
     record { reply = replies.Bracketed (bracket_of net dest budget arcs); next = net }
+effect_of net (commands.Need ask confidence) =
+    record { reply = replies.Allowed (allowance_of net ask confidence); next = net }
 
 abbrev pub unless_refused : Option Refusal → Effect → Result Effect Refusal
 unless_refused (Some refusal) effect = Err refusal

@@ -6,6 +6,7 @@ ghost use Rattle.sota_units.specs.Memory.{AnswersBy, Unless};
 ghost use Rattle.sota_kept.specs.States.{first_state};
 ghost use Rattle.sota_script.specs.Few.{HasFewPairs};
 ghost use Rattle.sota_script.specs.declared.command.Command.TheVariants.{Edit, Close, Route};
+ghost use Rattle.sota_script.specs.declared.command.Command.TheVariants.{Need};
 ghost use Rattle.sota_app.specs.Outputs.{Ends};
 ghost use Rattle.sota_app.specs.Replies.{is_shortage, outputs_of, lines_status, replies_status};
 ghost use Rattle.sota_app.specs.Script.{session_ask, command_result, result_step, step};
@@ -18,18 +19,19 @@ ghost use Rattle.sota_app.specs.declared.reply.Reply.TheVariants.{Refused};
 
 use crate::inputs::Script;
 use crate::output::make_reply;
-use crate::reply::{Bracket, NamedFile, Refusal, Reply};
+use crate::reply::{Allowance, Bracket, NamedFile, Refusal, Reply};
 use crate::status::Status;
 use crate::stop::Stop;
 use sota_edge::{Desk, Sink};
 use sota_hist::Histogram;
 use sota_network::Network;
 use sota_polfile::write_policy;
+use sota_quantile::least_budgets;
 use sota_route::route_bracket;
 use sota_script::{Ask3, Command, read_line};
 use sota_session::{Ask, AskFault, Session};
 use sota_text::Lines;
-use sota_units::{ArcId, Items, Mass, NoMemory, NodeId, Steps, Tick};
+use sota_units::{ArcId, Grain, Items, Mass, NoMemory, NodeId, Steps, Tick};
 use std::alloc::Global;
 use std::sync::ledger::{Blank, Ledger};
 
@@ -139,6 +141,36 @@ impl<D: Desk, O: Sink, M: Ledger, P: Ledger> Player<'_, '_, '_, '_, '_, D, O, M,
         }))
     }
 
+    /// Finds the time that one must allow for a confidence. It is planned on tables of its own: the
+    /// session stays as it is.
+    fn allow(&mut self, ask: Ask, confidence: Grain) -> Result<Reply, Refusal>
+        ensures reply { AnswersBy is_shortage
+            (λ reply. record { reply = reply; next = self.old.session.now.network })
+            result (command_result self.old.session.now.network
+            (Need (record { origin = ask.origin; dest = ask.dest; budget = ask.budget })
+            confidence)) }
+        ensures session { self.new.session.now ≡ self.old.session.now }
+        ensures desk { self.new.desk ≡ self.old.desk }
+        ensures sink { self.new.out ≡ self.old.out }
+        ensures pushes { self.new.pushes.ghost_name ≡ self.old.pushes.ghost_name }
+    {
+        let need = least_budgets(
+            self.alloc,
+            self.session.network(),
+            ask.origin,
+            ask.dest,
+            confidence,
+            ask.budget,
+            self.products,
+            self.pushes,
+        )?;
+        Ok(Reply::Allowed(Allowance {
+            ask,
+            confidence,
+            need,
+        }))
+    }
+
     /// Does a command. Where it is refused the network stays as it is.
     fn perform(&mut self, command: Command) -> Result<Reply, Refusal>
         requires { HasFewPairs command }
@@ -180,6 +212,7 @@ impl<D: Desk, O: Sink, M: Ledger, P: Ledger> Player<'_, '_, '_, '_, '_, D, O, M,
             Command::Route { dest, budget, arcs } => {
                 self.bracket(NodeId(dest), budget, arcs.as_slice())
             }
+            Command::Need { ask, confidence } => self.allow(session_ask(ask), confidence),
         }
     }
 

@@ -1,16 +1,18 @@
 // Replies to lines, and their texts.
 ghost use Rattle.std.specs.Prelude.{◌≡◌, ◌++◌, IfOk, OnOk, option_map};
 ghost use Rattle.sota_app.specs.Replies.{is_shortage, refusal_word, refusal_count};
-ghost use Rattle.sota_app.specs.Replies.{arc_text, count_text, answer_line, edited_line};
+ghost use Rattle.sota_app.specs.Replies.{number_text, count_text, answer_line, edited_line};
 ghost use Rattle.sota_app.specs.Replies.{closed_line, stored_line, bracket_line, refused_line};
+ghost use Rattle.sota_app.specs.Replies.{allowance_line};
 ghost use Rattle.sota_app.specs.Replies.{reply_line, reply_file, is_refusal};
 
 use sota_hist::HistFault;
+use sota_quantile::{Need, NeedFault};
 use sota_route::{RouteAnswer, RouteFault};
 use sota_script::{FileName, LineFault};
 use sota_session::{Answer, Ask, AskFault, EditFault};
 use sota_text::TextOut;
-use sota_units::{ArcId, Items, NoMemory, NodeId, grain_text};
+use sota_units::{ArcId, Grain, Items, NoMemory, NodeId, grain_text};
 use std::alloc::Global;
 
 /// A file that is to be stored.
@@ -29,6 +31,14 @@ pub struct Bracket {
     pub arcs: u64,
 }
 
+/// The time that one must allow to keep an ask with a confidence, of at most its budget.
+#[derive(Clone, Copy, Debug, PartialEq, Eq)]
+pub struct Allowance {
+    pub ask: Ask,
+    pub confidence: Grain,
+    pub need: Need,
+}
+
 /// The reply to a line.
 #[derive(Drop)]
 pub enum Reply {
@@ -42,6 +52,8 @@ pub enum Reply {
     Stored(NamedFile),
     /// The chance of a route was bracketed.
     Bracketed(Bracket),
+    /// The least budgets for a confidence were found.
+    Allowed(Allowance),
     /// The line of this number was refused.
     Refused(u32, Refusal),
 }
@@ -59,6 +71,8 @@ pub enum Refusal {
     Ask(AskFault),
     /// The route has this fault.
     Route(RouteFault),
+    /// The need has this fault.
+    Need(NeedFault),
 }
 
 impl From<LineFault> for Refusal {
@@ -111,6 +125,16 @@ impl From<RouteFault> for Refusal {
     }
 }
 
+impl From<NeedFault> for Refusal {
+    ghost use Rattle.sota_app.specs.declared.reply.Refusal.TheVariants.{Need as OfNeed};
+
+    ghost from_gives = { λ fault refusal. refusal ≡ OfNeed fault };
+
+    fn from(fault: NeedFault) -> Self {
+        Refusal::Need(fault)
+    }
+}
+
 impl Refusal {
     /// Whether memory was wanted. Such a line is not refused: it gets no reply.
     pub fn is_shortage(&self) -> bool
@@ -123,6 +147,7 @@ impl Refusal {
                 | Refusal::Edit(EditFault::NoMemory)
                 | Refusal::Ask(AskFault::NoMemory)
                 | Refusal::Route(RouteFault::NoMemory)
+                | Refusal::Need(NeedFault::NoMemory)
         )
     }
 
@@ -136,6 +161,7 @@ impl Refusal {
             Refusal::Edit(fault) => fault.word(),
             Refusal::Ask(fault) => fault.word(),
             Refusal::Route(fault) => fault.word(),
+            Refusal::Need(fault) => fault.word(),
         }
     }
 
@@ -146,17 +172,18 @@ impl Refusal {
         match self {
             Refusal::Ask(fault) => fault.count(),
             Refusal::Route(fault) => fault.number(),
+            Refusal::Need(fault) => fault.count(),
             Refusal::Line(_) | Refusal::Time(_) | Refusal::Edit(_) => None,
         }
     }
 }
 
-/// Appends the number of an arc, or a dash.
-fn push_arc(text: &mut TextOut, next: Option<ArcId>) -> Result<(), NoMemory>
-    ensures { OnOk result (text.new ≡ text.old ++ arc_text next) }
+/// Appends a number, or a dash.
+fn push_number(text: &mut TextOut, number: Option<u32>) -> Result<(), NoMemory>
+    ensures { OnOk result (text.new ≡ text.old ++ number_text number) }
 {
-    match next {
-        Some(arc) => text.number(u128::from(arc.get())),
+    match number {
+        Some(number) => text.number(u128::from(number)),
         None => text.bytes(b"-"),
     }
 }
@@ -188,7 +215,7 @@ pub fn write_answer(alloc: Global, ask: &Ask, answer: &Answer) -> Result<TextOut
     text.bytes(b" ")?;
     text.bytes(&grain_text(answer.upper))?;
     text.bytes(b" ")?;
-    push_arc(&mut text, answer.next)?;
+    push_number(&mut text, answer.next.map(ArcId::get))?;
     text.bytes(b"\n")?;
     Ok(text)
 }
@@ -245,6 +272,27 @@ fn write_bracket(alloc: Global, bracket: &Bracket) -> Result<TextOut, NoMemory>
     Ok(text)
 }
 
+/// The line `need O D CONF TMAX EARLY SURE`.
+fn write_allowance(alloc: Global, allowance: &Allowance) -> Result<TextOut, NoMemory>
+    ensures { IfOk result (λ text. text ≡ allowance_line allowance.now) }
+{
+    let mut text = TextOut::new(alloc);
+    text.bytes(b"need ")?;
+    text.number(u128::from(allowance.ask.origin.get()))?;
+    text.bytes(b" ")?;
+    text.number(u128::from(allowance.ask.dest.get()))?;
+    text.bytes(b" ")?;
+    text.bytes(&grain_text(allowance.confidence))?;
+    text.bytes(b" ")?;
+    text.number(u128::from(allowance.ask.budget))?;
+    text.bytes(b" ")?;
+    push_number(&mut text, allowance.need.early)?;
+    text.bytes(b" ")?;
+    push_number(&mut text, allowance.need.sure)?;
+    text.bytes(b"\n")?;
+    Ok(text)
+}
+
 /// The line `refused LINE CAUSE`, with the count of a cause that has one.
 fn write_refused(alloc: Global, line: u32, refusal: &Refusal) -> Result<TextOut, NoMemory>
     ensures { IfOk result (λ text. text ≡ refused_line line refusal.now) }
@@ -270,6 +318,7 @@ impl Reply {
             Reply::Closed(arc) => write_closed(alloc, *arc),
             Reply::Stored(file) => write_stored(alloc, file.name.as_str()),
             Reply::Bracketed(bracket) => write_bracket(alloc, bracket),
+            Reply::Allowed(allowance) => write_allowance(alloc, allowance),
             Reply::Refused(line, refusal) => write_refused(alloc, *line, refusal),
         }
     }
@@ -281,7 +330,7 @@ impl Reply {
         match self {
             Reply::Stored(file) => Some(file),
             Reply::Answered(_, _) | Reply::Edited(_) | Reply::Closed(_) => None,
-            Reply::Bracketed(_) | Reply::Refused(_, _) => None,
+            Reply::Bracketed(_) | Reply::Allowed(_) | Reply::Refused(_, _) => None,
         }
     }
 

@@ -27,7 +27,7 @@ const TIGHT_POLICY: &[u8] = b"SOTAPOL1\0\0\0\x02\0\0\0\x02\0\0\0\x01\0\0\0\x04\0
 const STUCK_POLICY: &[u8] = b"SOTAPOL1\0\0\0\x02\0\0\0\x02\0\0\0\x01\0\0\0\x04\0\0\0\x01\0\0\0\0";
 
 /// Each by its name.
-pub(crate) const FILES: [(&str, &[u8]); 49] = [
+pub(crate) const FILES: [(&str, &[u8]); 51] = [
     // Graphs.
     ("triangle", TRIANGLE),
     ("road", b"p sp 2 1\na 1 2 5\n"),
@@ -81,6 +81,17 @@ pub(crate) const FILES: [(&str, &[u8]); 49] = [
     (
         "faulty",
         b"go\nask 1 3\nedit 2 1-4\nedit 9 1:5\nedit 2 0:1 1:1\nedit 2 1:1 1:1\nclose",
+    ),
+    (
+        "needs",
+        b"need 1 3 0.750000000000000000 9\nneed 3 1 0.000000000000000001 9\n\
+        need 3 3 1.000000000000000000 0\nneed 4 3 0.750000000000000000 9\n\
+        need 1 4 0.750000000000000000 65536\nneed 1 3 0.750000000000000000 65536\n\
+        need 1 3 0.75 9\nedit 2 1:4\nneed 01 3 1.000000000000000000 9\nask 1 3 2\n",
+    ),
+    (
+        "close_needs",
+        b"need 1 3 0.111111111111111112 10\nneed 1 3 0.111111111111111112 9\n",
     ),
     ("note", b"\n# note\n"),
     ("tight", b"ask 1 3 1"),

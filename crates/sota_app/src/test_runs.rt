@@ -208,6 +208,22 @@ refused 5 ZeroTick
 refused 6 RepeatedTick
 refused 7 Count
 = 1
+> run triangle times needs
+need 1 3 0.750000000000000000 9 3 3
+need 3 1 0.000000000000000001 9 - -
+need 3 3 1.000000000000000000 0 0 0
+refused 4 NoOrigin
+refused 5 NoDest
+refused 6 Budget
+refused 7 Number
+edited 2
+need 1 3 1.000000000000000000 9 2 2
+answer 1 3 2 1.000000000000000000 1.000000000000000000 1
+= 1
+> run chain thirds close_needs
+need 1 3 0.111111111111111112 10 2 10
+need 1 3 0.111111111111111112 9 2 -
+= 0
 > run triangle times empty
 = 0
 > run triangle times note

@@ -6,7 +6,7 @@ use Rattle.std.proofs.lemmas.List.{length-map}
 use Rattle.sota_text.specs.Text.{is_blank, is_empty, fields_of}
 use Rattle.sota_text.specs.Words.{three, four}
 use Rattle.sota_units.specs.Memory.{◌>>=◌, or_fault}
-use Rattle.sota_script.specs.Lines.{all_there, pair_of, pairs_of, parse_number, parse_ask, parse_name, parse_edit, parse_close, parse_ask_line, parse_policy, parse_route, parse_command, numbers_of}
+use Rattle.sota_script.specs.Lines.{all_there, pair_of, pairs_of, parse_number, parse_ask, parse_name, parse_edit, parse_close, parse_ask_line, parse_policy, parse_route, parse_need, parse_command, numbers_of, grain_of}
 use Rattle.sota_script.specs.Few.{HasFewPairs}
 use Rattle.sota_script.specs.declared.command.Ask3.{Ask3}
 use Rattle.sota_script.specs.declared.command.Command.{Command}
@@ -108,6 +108,18 @@ route_few (dest ∷ []) command e = absurd (cc)
 route_few (dest ∷ budget ∷ []) command e = absurd (cc)
 route_few (dest ∷ budget ∷ first ∷ more) command e = route_by (parse_number dest) (parse_number budget) (numbers_of (first ∷ more)) command e
 
+need_by : (ask : Result Ask3 LineFault) (confidence : Option ℕ) (command : Command) → (ask >>= λ ask. or_fault Number confidence >>= λ confidence. Ok (commands.Need ask confidence)) ≡ Ok command → HasFewPairs command
+need_by (Err fault) confidence command e = absurd (cc)
+need_by (Ok ask) None command e = absurd (cc)
+need_by (Ok ask) (Some confidence) command e = let is : commands.Need ask confidence ≡ command = cc in subst (λ (command : Command). HasFewPairs command) is tt
+
+need_few : (words : List (List ℕ)) (command : Command) → parse_need words ≡ Ok command → HasFewPairs command
+need_few words command e =
+    elim (four words) as (λ words. (or_fault Count words >>= λ word. parse_ask word.0 word.1 word.3 >>= λ ask. or_fault Number (grain_of word.2) >>= λ confidence. Ok (commands.Need ask confidence)) ≡ Ok command → HasFewPairs command) [
+      | None ↦ λ e. absurd (cc)
+      | Some word ↦ λ e. need_by (parse_ask word.0 word.1 word.3) (grain_of word.2) command e
+    ] e
+
 -- one of two commands, by a test
 by_word : (test : Bool) (one other : Result Command LineFault) (command : Command) → (one ≡ Ok command → HasFewPairs command) → (other ≡ Ok command → HasFewPairs command)
     → cond test one other ≡ Ok command → HasFewPairs command
@@ -120,5 +132,6 @@ command_few first words command few =
     (by_word (bytes_eq first (codes "close")) (parse_close words) _ command (close_few words command)
     (by_word (bytes_eq first (codes "ask")) (parse_ask_line words) _ command (ask_few words command)
     (by_word (bytes_eq first (codes "policy")) (parse_policy words) _ command (policy_few words command)
-    (by_word (bytes_eq first (codes "route")) (parse_route words) (Err Word) command (route_few words command)
-    (λ e. absurd (cc))))))
+    (by_word (bytes_eq first (codes "route")) (parse_route words) _ command (route_few words command)
+    (by_word (bytes_eq first (codes "need")) (parse_need words) (Err Word) command (need_few words command)
+    (λ e. absurd (cc)))))))

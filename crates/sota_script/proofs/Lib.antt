@@ -1,3 +1,4 @@
 mod Colons
 mod Few
 mod Names
+pub mod Confidence

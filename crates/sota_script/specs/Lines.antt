@@ -1,9 +1,13 @@
 -- What a line of a script holds: a command, nothing, or a fault.
-use Rattle.std.specs.Prelude.{ℕ, ◌≡◌, Bool, ◌==◌, List, [], ◌∷◌, ◌++◌, slice_index, map, codes}
+use Rattle.std.specs.Prelude.{ℕ, ◌≡◌, Bool, ◌==◌, ◌&&◌, nat_le, List, [], ◌∷◌, ◌++◌, slice_index}
+use Rattle.std.specs.Prelude.{take, drop, map, codes}
 use Rattle.std.specs.Prelude.{Option, Some, None, option_map, Result, Ok, Err, if◌then◌else◌}
 use Rattle.std.specs.List.{before_first, after_first}
 use Rattle.std.specs.Str.{bytes_eq, is_utf8}
+use Rattle.std.specs.Str.Parse.{digits_value}
+use Rattle.sota_units.specs.GrainText.{grain_spelling}
 use Rattle.sota_units.specs.Memory.{◌>>=◌, or_fault}
+use Rattle.sota_units.specs.Rounding.{ONE}
 use Rattle.sota_text.specs.Text.{fields_of, number_of}
 use Rattle.sota_text.specs.Words.{three, four}
 use Rattle.sota_script.specs.declared.command.Ask3.{Ask3}
@@ -49,6 +53,18 @@ pairs_of fields = all_there (map pair_of fields)
 
 abbrev pub numbers_of : List (List ℕ) → Option (List ℕ)
 numbers_of fields = all_there (map number_of fields)
+
+-- the number of a field's digits, all its bytes but the point
+abbrev pub units_of : List ℕ → ℕ
+units_of field = digits_value 10 (take 1 field ++ drop 2 field)
+
+-- the probability of which a field is the spelling, in units of ten to the minus eighteenth. A
+-- spelling has the digits of its number, so that no other one has to be tried
+abbrev pub grain_of : List ℕ → Option ℕ
+grain_of field =
+    if nat_le (units_of field) ONE && bytes_eq field (grain_spelling (units_of field))
+    then Some (units_of field)
+    else None
 
 -- 'O D T'
 abbrev pub parse_ask : List ℕ → List ℕ → List ℕ → Result Ask3 LineFault
@@ -96,6 +112,14 @@ parse_route (dest ∷ budget ∷ first ∷ more) = do
   Ok (commands.Route dest budget arcs)
 parse_route _ = Err Count
 
+-- 'O D CONF TMAX' after 'need'
+abbrev pub parse_need : List (List ℕ) → Result Command LineFault
+parse_need words = do
+  word ← or_fault Count (four words)
+  ask ← parse_ask word.0 word.1 word.3
+  confidence ← or_fault Number (grain_of word.2)
+  Ok (commands.Need ask confidence)
+
 -- 'ARC' after 'close'
 abbrev pub parse_close : List (List ℕ) → Result Command LineFault
 parse_close (arc ∷ []) = do
@@ -111,7 +135,8 @@ parse_command first words =
     else (if bytes_eq first (codes "ask") then parse_ask_line words
     else (if bytes_eq first (codes "policy") then parse_policy words
     else (if bytes_eq first (codes "route") then parse_route words
-    else Err Word))))
+    else (if bytes_eq first (codes "need") then parse_need words
+    else Err Word)))))
 
 -- ---- lines
 

@@ -1,6 +1,6 @@
 // The commands that lines of a script give.
 use crate::FileName;
-use sota_units::{ArcId, Items, Mass, Tick};
+use sota_units::{ArcId, Grain, Items, Mass, Tick};
 
 /// An ask as its numbers stand: an origin, a destination and a budget in ticks.
 #[derive(Clone, Copy, Debug, PartialEq, Eq)]
@@ -35,5 +35,10 @@ pub enum Command {
         dest: u32,
         budget: u32,
         arcs: Items<ArcId>,
+    },
+    /// The least budgets, of at most that of the ask, that give its confidence are to be found.
+    Need {
+        ask: Ask3,
+        confidence: Grain,
     },
 }

@@ -6,22 +6,23 @@ ghost use Rattle.sota_text.specs.Spans.{bytes_of, AreWithin, IsWithin};
 ghost use Rattle.sota_script.specs.Words.{is_shortage};
 ghost use Rattle.sota_script.specs.Lines.{parse_line, parse_command, begins_comment};
 ghost use Rattle.sota_script.specs.Lines.{parse_edit, parse_close, parse_ask_line, parse_policy};
-ghost use Rattle.sota_script.specs.Lines.{parse_route, parse_ask, parse_number, parse_name};
+ghost use Rattle.sota_script.specs.Lines.{parse_route, parse_need, parse_ask, parse_number};
+ghost use Rattle.sota_script.specs.Lines.{parse_name, grain_of};
 ghost use Rattle.sota_script.specs.Lines.{pairs_of, pair_of, is_colon, numbers_of};
 ghost use Rattle.sota_script.specs.Few.{HasFewPairs};
 ghost use Rattle.sota_script.specs.declared.fault.LineFault.TheVariants.{Number};
 
 use crate::{Ask3, Command, FileName, LineFault};
 use sota_text::{Fields, Span, four_fields, read_u32, three_fields};
-use sota_units::{ArcId, Items, Mass, NoMemory, Tick};
+use sota_units::{ArcId, Grain, Items, Mass, NoMemory, Tick, read_grain};
 use std::alloc::Global;
 
 /// The command of a line, which stands without what ends it. None exactly where the line is blank
 /// or a comment, whose first field begins with `#`.
 ///
 /// Commands are `edit ARC T:M ..`, with one pair or more, `close ARC`, `ask O D T`,
-/// `policy O D T NAME` and `route D T ARC ..`, with one arc or more. Fields are parted by spaces
-/// and tabs.
+/// `policy O D T NAME`, `route D T ARC ..`, with one arc or more, and `need O D CONF TMAX`. Fields
+/// are parted by spaces and tabs.
 pub fn read_line(alloc: Global, line: &[u8]) -> Result<Option<Command>, LineFault>
     requires { length line.now < 2 ^ 32 }
     ensures meaning { Answers is_shortage result (parse_line line.now) }
@@ -66,6 +67,8 @@ fn read_command(
         read_policy(alloc, line, fields)
     } else if first == b"route".as_slice() {
         read_route(alloc, line, fields)
+    } else if first == b"need".as_slice() {
+        read_need(line, fields)
     } else {
         Err(LineFault::Word)
     }
@@ -162,6 +165,28 @@ fn read_arcs(
             .map_err(NoMemory::from)?;
     }
     Ok(Items::new(arcs))
+}
+
+/// The need of the fields after a `need`.
+fn read_need(line: &[u8], fields: Fields<'_>) -> Result<Command, LineFault>
+    requires { AreWithin line.now fields }
+    ensures { result ≡ parse_need (map (bytes_of line.now) fields.entry) }
+{
+    let (origin, dest, confidence, most) = four_fields(line, fields).ok_or(LineFault::Count)?;
+    Ok(Command::Need {
+        ask: read_ask(origin, dest, most)?,
+        confidence: read_confidence(confidence)?,
+    })
+}
+
+/// The probability of a field.
+fn read_confidence(field: &[u8]) -> Result<Grain, LineFault>
+    ensures { result ≡ or_fault Number (grain_of field.now) }
+{
+    match read_grain(field) {
+        Some(grain) if grain <= Grain::ONE => Ok(grain),
+        _ => Err(LineFault::Number),
+    }
 }
 
 /// The arc of the fields after a `close`.

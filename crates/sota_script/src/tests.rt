@@ -1,6 +1,6 @@
 // Examples from outside the definitions.
 use crate::{Ask3, Command, LineFault, read_line};
-use sota_units::{ArcId, Items, Mass, Tick};
+use sota_units::{ArcId, Grain, Items, Mass, Tick};
 use std::alloc::Global;
 use std::test::Fail;
 
@@ -22,6 +22,14 @@ fn refused_lines(rt: HostRuntime) -> Result<(), Fail> {
         ("route 3 9", LineFault::Count),
         ("routes 3 9 1", LineFault::Word),
         ("route 3 9 1 x", LineFault::Number),
+        ("needs 1 2 0.500000000000000000 9", LineFault::Word),
+        ("need 1 2 0.5", LineFault::Count),
+        ("need 1 2 x 9 9", LineFault::Count),
+        ("need 1 2 0.500000000000000000 x", LineFault::Number),
+        ("need 1 2 0.5 9", LineFault::Number),
+        ("need 1 2 0,500000000000000000 9", LineFault::Number),
+        ("need 1 2 1.000000000000000001 9", LineFault::Number),
+        ("need 1 2 2.000000000000000000 9", LineFault::Number),
         ("close 1:1", LineFault::Number),
         ("edit x 1:1", LineFault::Number),
         ("edit 2 1-4", LineFault::Number),
@@ -62,7 +70,7 @@ fn is_ask(command: &Command, want: &Ask3) -> bool {
     match command {
         Command::Ask(ask) => ask == want,
         Command::Edit { .. } | Command::Close { .. } => false,
-        Command::Policy { .. } | Command::Route { .. } => false,
+        Command::Policy { .. } | Command::Route { .. } | Command::Need { .. } => false,
     }
 }
 
@@ -71,7 +79,7 @@ fn is_policy(command: &Command, want: &Ask3, want_name: &str) -> bool {
     match command {
         Command::Policy { ask, name } => ask == want && name.as_str() == want_name,
         Command::Edit { .. } | Command::Close { .. } => false,
-        Command::Ask(_) | Command::Route { .. } => false,
+        Command::Ask(_) | Command::Route { .. } | Command::Need { .. } => false,
     }
 }
 
@@ -83,7 +91,7 @@ fn is_edit(command: Command, want: ArcId, want_pairs: &[(Tick, Mass)]) -> bool {
             arc == want && pairs.as_slice() == want_pairs
         }
         Command::Close { .. } | Command::Ask(_) => false,
-        Command::Policy { .. } | Command::Route { .. } => false,
+        Command::Policy { .. } | Command::Route { .. } | Command::Need { .. } => false,
     }
 }
 
@@ -94,7 +102,16 @@ fn is_route(command: &Command, want_dest: u32, want_budget: u32, route: &[ArcId]
             *dest == want_dest && *budget == want_budget && arcs.as_slice() == route
         }
         Command::Edit { .. } | Command::Close { .. } => false,
-        Command::Ask(_) | Command::Policy { .. } => false,
+        Command::Ask(_) | Command::Policy { .. } | Command::Need { .. } => false,
+    }
+}
+
+/// Whether a command is the need of this ask and confidence.
+fn is_need(command: &Command, want: &Ask3, want_confidence: Grain) -> bool {
+    match command {
+        Command::Need { ask, confidence } => ask == want && *confidence == want_confidence,
+        Command::Edit { .. } | Command::Close { .. } => false,
+        Command::Ask(_) | Command::Policy { .. } | Command::Route { .. } => false,
     }
 }
 
@@ -123,5 +140,7 @@ fn commands(rt: HostRuntime) -> Result<(), Fail> {
     assert!(rt; matches!(&command, Command::Close { arc: ArcId(7) }));
     let command = read_line(rt.alloc(), b"route 3 65536\t1 02 ")?.ok_or("a route")?;
     assert!(rt; is_route(&command, 3, 65536, &[ArcId(1), ArcId(2)]));
+    let command = read_line(rt.alloc(), b"need 1\t2 1.000000000000000000 65536")?.ok_or("a need")?;
+    assert!(rt; is_need(&command, &ask, Grain::ONE));
     Ok(())
 }
