@@ -1,7 +1,8 @@
 -- How many entries planning pushes to its tables, and how much of them is kept, line by line.
-use Rattle.std.specs.Prelude.{ℕ, ◌≡◌, ◌+◌, List, [], ◌∷◌, Option, Some, None, Result, Ok, Err}
+use Rattle.std.specs.Prelude.{ℕ, ◌≡◌, ◌+◌, ◌*◌, List, [], ◌∷◌, Option, Some, None, Result, Ok, Err}
 use Rattle.sota_hist.specs.Build.{time_of}
 use Rattle.sota_network.specs.Network.{Net}
+use Rattle.sota_network.specs.Region.{table_cells}
 use Rattle.sota_kept.specs.States.{State, first_state}
 use Rattle.sota_script.specs.declared.command.Ask3.{Ask3}
 use Rattle.sota_script.specs.declared.command.Command.{Command}
@@ -30,6 +31,11 @@ ask_effort net ask kept = record {
   kept = state_after net (session_ask ask) kept;
 }
 
+-- a need is planned on tables of its own, which are filled with the region of its ask
+abbrev pub need_effort : Net → Ask3 → State → Effort
+need_effort net ask kept =
+    record { pushes = 3 * table_cells net ask.origin ask.dest ask.budget; kept = kept }
+
 -- another time of an arc cuts what it can affect
 abbrev pub edit_effort : Net → ℕ → List (ℕ × ℕ) → State → Effort
 edit_effort net arc time kept = record { pushes = 0; kept = state_edited net arc time kept }
@@ -41,6 +47,7 @@ command_effort net (commands.Close arc) kept = edit_effort net arc [] kept
 command_effort net (commands.Ask ask) kept = ask_effort net ask kept
 command_effort net (commands.Policy ask name) kept = ask_effort net ask kept
 command_effort net (commands.Route dest budget arcs) kept = no_effort kept
+command_effort net (commands.Need ask confidence) kept = need_effort net ask kept
 
 -- what is refused costs nothing
 abbrev pub unless_refused_effort : Option Refusal → State → Effort → Effort

@@ -1,8 +1,9 @@
 // Lines that are played: each is done and replied to before the next.
-ghost use Rattle.std.specs.Prelude.{◌≡◌, ◌≤◌, ◌<◌, ◌+◌, ◌^◌, ◌∷◌, [], length};
+ghost use Rattle.std.specs.Prelude.{◌≡◌, ◌≤◌, ◌<◌, ◌+◌, ◌*◌, ◌^◌, ◌∷◌, [], length};
 ghost use Rattle.std.specs.Prelude.{false, IfOk, IfErr, OnOk, OnErr, Some};
 ghost use Rattle.sota_units.specs.Limits.{TEXT_LIMIT};
 ghost use Rattle.sota_units.specs.Memory.{AnswersBy, Unless};
+ghost use Rattle.sota_network.specs.Region.{table_cells};
 ghost use Rattle.sota_kept.specs.States.{first_state};
 ghost use Rattle.sota_script.specs.Few.{HasFewPairs};
 ghost use Rattle.sota_script.specs.declared.command.Command.TheVariants.{Edit, Close, Route};
@@ -149,6 +150,9 @@ impl<D: Desk, O: Sink, M: Ledger, P: Ledger> Player<'_, '_, '_, '_, '_, D, O, M,
             result (command_result self.old.session.now.network
             (Need (record { origin = ask.origin; dest = ask.dest; budget = ask.budget })
             confidence)) }
+        ensures count { OnOk result (self.new.pushes.now ≡ self.old.pushes.now
+            + 3 * table_cells self.old.session.now.network ask.origin ask.dest ask.budget) }
+        ensures no_push { OnErr result (self.new.pushes.now ≡ self.old.pushes.now) }
         ensures session { self.new.session.now ≡ self.old.session.now }
         ensures desk { self.new.desk ≡ self.old.desk }
         ensures sink { self.new.out ≡ self.old.out }
