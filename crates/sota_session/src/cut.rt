@@ -8,8 +8,8 @@ ghost use Rattle.sota_tables.specs.Views.{HasNode, SameNodes, table_at};
 use sota_tables::Tables;
 use sota_units::{BUDGET_LIMIT, NodeId};
 
-/// Keeps the entries of each node below its first affected budget, none of which is never: that of
-/// node `i` stands at index `i - 1`.
+/// Keeps the entries of each node below its first affected budget, and all where that is never,
+/// which is None: that of node `i` stands at index `i - 1`.
 pub(crate) fn cut_all(tables: &mut Tables, budgets: &[Option<u64>])
     requires { length budgets.now ≡ length tables.old.fronts }
     ensures nodes { SameNodes tables.old tables.new }

@@ -28,7 +28,7 @@ use sota_hist::Histogram;
 use sota_kept::kept::tables_stay_right;
 use sota_kept::laws::edits_affect;
 use sota_network::Network;
-use sota_network::laws::{arcs_by_number, lists_by_number};
+use sota_network::laws::lists_by_number;
 use sota_polfile::PolicyTable;
 use sota_tables::Tables;
 use sota_tables::laws::{tables_stay_kept, views_are_lists};
@@ -222,7 +222,6 @@ impl Session {
         ensures right { IsKept self.new.tables self.new.network }
         ensures valid { IsNet self.new.network }
     {
-        arcs_by_number();
         tables_stay_right();
         views_are_lists();
         let cuts = self.cuts(arc, &time)?;
