@@ -31,43 +31,13 @@ abbrev pub reply_unless : Option Refusal → Net → ℕ → Command → Option 
 reply_unless refusal net number command =
     (result_step net number (unless_refused refusal (effect_of net command))).reply
 
-edits_are_none : (net : Net) (number arc : ℕ) (pairs : List (ℕ × ℕ)) (ask : Ask) (answer : Answer)
-    (refusal : Option Refusal)
-    → reply_unless refusal net number (commands.Edit arc pairs) ≡ Some (replies.Answered ask answer)
-    → ⊥
-edits_are_none net number arc pairs ask answer None e = cc
-edits_are_none net number arc pairs ask answer (Some refusal) e = cc
-
-closes_are_none : (net : Net) (number arc : ℕ) (ask : Ask) (answer : Answer)
-    (refusal : Option Refusal)
-    → reply_unless refusal net number (commands.Close arc) ≡ Some (replies.Answered ask answer)
-    → ⊥
-closes_are_none net number arc ask answer None e = cc
-closes_are_none net number arc ask answer (Some refusal) e = cc
-
-policies_are_none : (net : Net) (number : ℕ) (numbers : Ask3) (name : List ℕ) (ask : Ask)
-    (answer : Answer) (refusal : Option Refusal)
-    → reply_unless refusal net number (commands.Policy numbers name)
-    ≡ Some (replies.Answered ask answer)
-    → ⊥
-policies_are_none net number numbers name ask answer None e = cc
-policies_are_none net number numbers name ask answer (Some refusal) e = cc
-
-routes_are_none : (net : Net) (number dest budget : ℕ) (arcs : List ℕ) (ask : Ask)
-    (answer : Answer) (refusal : Option Refusal)
-    → reply_unless refusal net number (commands.Route dest budget arcs)
-    ≡ Some (replies.Answered ask answer)
-    → ⊥
-routes_are_none net number dest budget arcs ask answer None e = cc
-routes_are_none net number dest budget arcs ask answer (Some refusal) e = cc
-
-needs_are_none : (net : Net) (number : ℕ) (numbers : Ask3) (confidence : ℕ) (ask : Ask)
-    (answer : Answer) (refusal : Option Refusal)
-    → reply_unless refusal net number (commands.Need numbers confidence)
-    ≡ Some (replies.Answered ask answer)
-    → ⊥
-needs_are_none net number numbers confidence ask answer None e = cc
-needs_are_none net number numbers confidence ask answer (Some refusal) e = cc
+-- a command whose effect has another reply is not replied to with an answer
+others_are_none : (net : Net) (number : ℕ) (command : Command) (ask : Ask) (answer : Answer)
+    → ((effect_of net command).reply ≡ replies.Answered ask answer → ⊥)
+    → (refusal : Option Refusal)
+    → reply_unless refusal net number command ≡ Some (replies.Answered ask answer) → ⊥
+others_are_none net number command ask answer other None e = other (cc)
+others_are_none net number command ask answer other (Some refusal) e = cc
 
 asks_are : (net : Net) (number : ℕ) (numbers : Ask3) (ask : Ask) (answer : Answer)
     (fault : Option AskFault) → ask_fault net (session_ask numbers) ≡ fault
@@ -86,19 +56,19 @@ answers_ask : (net : Net) (number : ℕ) (parsed : Result (Option Command) LineF
 answers_ask net number (Ok None) ask answer e = absurd (cc)
 answers_ask net number (Err fault) ask answer e = absurd (cc)
 answers_ask net number (Ok (Some (commands.Edit arc pairs))) ask answer e =
-    absurd (edits_are_none net number arc pairs ask answer
+    absurd (others_are_none net number (commands.Edit arc pairs) ask answer (λ e. cc)
     (command_refusal net (commands.Edit arc pairs)) e)
 answers_ask net number (Ok (Some (commands.Close arc))) ask answer e =
-    absurd (closes_are_none net number arc ask answer
+    absurd (others_are_none net number (commands.Close arc) ask answer (λ e. cc)
     (command_refusal net (commands.Close arc)) e)
 answers_ask net number (Ok (Some (commands.Policy numbers name))) ask answer e =
-    absurd (policies_are_none net number numbers name ask answer
+    absurd (others_are_none net number (commands.Policy numbers name) ask answer (λ e. cc)
     (command_refusal net (commands.Policy numbers name)) e)
 answers_ask net number (Ok (Some (commands.Route dest budget arcs))) ask answer e =
-    absurd (routes_are_none net number dest budget arcs ask answer
+    absurd (others_are_none net number (commands.Route dest budget arcs) ask answer (λ e. cc)
     (command_refusal net (commands.Route dest budget arcs)) e)
 answers_ask net number (Ok (Some (commands.Need numbers confidence))) ask answer e =
-    absurd (needs_are_none net number numbers confidence ask answer
+    absurd (others_are_none net number (commands.Need numbers confidence) ask answer (λ e. cc)
     (command_refusal net (commands.Need numbers confidence)) e)
 answers_ask net number (Ok (Some (commands.Ask numbers))) ask answer e =
     asks_are net number numbers ask answer (ask_fault net (session_ask numbers)) refl e
