@@ -30,7 +30,7 @@ pub work_done : (o : Option Request) (files : Files) (work : Work) → Means o f
 work_done None files work h = absurd h
 work_done (Some request) files work h = ap work_outcome h
 
-text_replied : (replies : List Reply) → text_of (outputs_of replies) ≡ replies_text replies
+pub text_replied : (replies : List Reply) → text_of (outputs_of replies) ≡ replies_text replies
 text_replied [] = refl
 text_replied (reply ∷ replies) = ap (λ text. reply_line reply ++ text) (text_replied replies)
 

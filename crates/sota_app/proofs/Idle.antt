@@ -1,10 +1,10 @@
 -- A job that was done is not idle.
-use Rattle.std.proofs.Common.{ℕ, ◌≡◌, Bool, true, false, Option, None, Some, Result, Ok, Err, IfOk, subst}
+use Rattle.std.proofs.Common.{◌≡◌, Bool, true, false, Option, None, Some, Result, Ok, Err, IfOk, subst}
 use Rattle.sota_network.specs.Network.{Net}
 use Rattle.sota_check.specs.declared.verdict.Rejection.{Rejection}
 use Rattle.sota_session.specs.declared.ask.Ask.{Ask}
 use Rattle.sota_session.specs.declared.ask.AskFault.{AskFault}
-use Rattle.sota_app.specs.Replies.{lines_status, some_refused, replies_status}
+use Rattle.sota_app.specs.Replies.{lines_status, some_refused}
 use Rattle.sota_app.specs.Script.{session_ask, replies_to}
 use Rattle.sota_app.specs.Verdicts.{verdict_status}
 use Rattle.sota_app.specs.Shown.{plan_result}

@@ -6,6 +6,7 @@ pub mod Lines
 pub mod Reaches
 pub mod WorkValid
 pub mod Worked
+pub mod Commanded
 pub mod Idle
 pub mod Exact
 pub mod Ends

@@ -1,5 +1,5 @@
 -- The pushes of lines that are played one after the other.
-use Rattle.std.proofs.Common.{ℕ, ◌≡◌, ◌+◌, List, [], ◌∷◌, refl, sym, ◌∙◌, ap, arith}
+use Rattle.std.proofs.Common.{ℕ, ◌≡◌, ◌+◌, List, ◌∷◌, refl, sym, ◌∙◌, ap, arith}
 use Rattle.std.proofs.Common.{Bool, true, false, Option, None, Some, Result, Ok, Err, OnOk}
 use Rattle.sota_units.specs.Memory.{Unless}
 use Rattle.sota_network.specs.Network.{Net}

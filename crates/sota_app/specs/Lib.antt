@@ -12,4 +12,5 @@ pub mod Outcome
 pub mod Causes
 pub mod Inputs
 pub mod Meaning
+pub mod Commands
 pub mod Laws

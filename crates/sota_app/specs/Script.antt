@@ -44,9 +44,13 @@ script_line line = record { number = line.0; parsed = parse_line line.1 }
 abbrev pub script_lines : List ℕ → List ScriptLine
 script_lines script = map script_line (numbered_lines script)
 
+-- a command on the line of this number
+abbrev pub command_on : ℕ → Command → ScriptLine
+command_on number command = record { number = number; parsed = Ok (Some command) }
+
 -- an ask on the line of this number
 abbrev pub ask_on : ℕ → Ask3 → ScriptLine
-ask_on number ask = record { number = number; parsed = Ok (Some (commands.Ask ask)) }
+ask_on number ask = command_on number (commands.Ask ask)
 
 -- ---- commands
 

@@ -1,5 +1,6 @@
 // The top call.
-ghost use Rattle.std.specs.Prelude.{◌≡◌, ◌≢◌, ◌+◌, Some, Err, IfOk, OnOk, map, string_bytes};
+ghost use Rattle.std.specs.Prelude.{ℕ, ◌≡◌, ◌≢◌, ◌+◌, List, Some, Err, IfOk, OnOk};
+ghost use Rattle.std.specs.Prelude.{map, string_bytes};
 ghost use Rattle.sota_edge.specs.Counts.{Rose};
 ghost use Rattle.sota_edge.specs.Desk.{Files};
 ghost use Rattle.sota_network.specs.Network.{Net};
@@ -9,6 +10,8 @@ ghost use Rattle.sota_app.specs.Words.{request_of};
 ghost use Rattle.sota_app.specs.Inputs.{NoInputWritten, IsShortJob, job_of};
 ghost use Rattle.sota_app.specs.Inputs.{IsWorked, IsIdle, JobHolds};
 ghost use Rattle.sota_app.specs.Work.{job_work};
+ghost use Rattle.sota_app.specs.Commands.{CommandLine, IsDone, Bracketed, Allowed};
+ghost use Rattle.sota_script.specs.declared.command.Command.TheVariants.{Route, Need};
 ghost use Rattle.sota_app.specs.Outcome as outcomes;
 ghost use Rattle.sota_app.specs.Outcome.{outcome, refused_words, job_outcome};
 ghost use Rattle.sota_app.specs.Causes.{Ended, Delivered, NoFault, status_of};
@@ -34,6 +37,8 @@ use sota_histcsv::laws::texts_mean_networks;
 use sota_make::laws::made_networks;
 use sota_network::Network;
 use sota_network::laws::{edits_keep_networks, grid_encloses};
+use sota_quantile::laws::needs_by_trees;
+use sota_route::laws::routes_are_enclosed;
 use sota_units::Steps;
 use std::alloc::Global;
 use std::marker::Brand;
@@ -176,6 +181,21 @@ pub fn run<D: Desk, O: Sink, P: Ledger>(
         → result ≢ Status.NoMemory → IsShown (map string_bytes words.now) files net ask
         → Shown net ask result (O.state out.old) (O.state out.new) }
 
+    // And each route that is bracketed and each need that is answered means what it says of
+    // decision trees, on the network of its line.
+    ensures bracketed { (files : Files) (line : CommandLine) (dest budget : ℕ) (arcs : List ℕ)
+        → (D.state desk.old).holds ≡ Some files
+        → NoFault (D.state desk.old) (D.state desk.new) (O.state out.old) (O.state out.new)
+        → result ≢ Status.NoMemory → IsDone (map string_bytes words.now) files line
+        → line.command ≡ Route dest budget arcs
+        → Bracketed line dest budget arcs (O.state out.old) (O.state out.new) }
+    ensures allowed { (files : Files) (line : CommandLine) (ask : Ask3) (confidence : ℕ)
+        → (D.state desk.old).holds ≡ Some files
+        → NoFault (D.state desk.old) (D.state desk.new) (O.state out.old) (O.state out.new)
+        → result ≢ Status.NoMemory → IsDone (map string_bytes words.now) files line
+        → line.command ≡ Need ask confidence
+        → Allowed line ask confidence (O.state out.old) (O.state out.new) }
+
     // The pushes are counted exactly where the job is done, and there are none where there is none.
     ensures counted { (files : Files) (net : Net) (job : outcomes.Job)
         → (D.state desk.old).holds ≡ Some files → IsWorked result
@@ -191,6 +211,8 @@ pub fn run<D: Desk, O: Sink, P: Ledger>(
     passed_policies_hold();
     certified_attains();
     made_networks();
+    routes_are_enclosed();
+    needs_by_trees();
     match serve(alloc, words, desk, out, pushes) {
         Ok(status) => status,
         Err(Stop::PutFailed | Stop::StoreFailed) => Status::WriteFault,

@@ -1,4 +1,4 @@
-use Rattle.std.proofs.Common.{rules, ◌≡◌, ◌+◌, Ok, Err, refl}
+use Rattle.std.proofs.Common.{rules, ◌≡◌, Ok, Err, refl}
 use Rattle.sota_kept.specs.States.{first_state}
 use Rattle.sota_units.specs.Memory.{Unless}
 use Rattle.sota_edge.specs.Sink.{SinkState}
@@ -7,7 +7,6 @@ use Rattle.sota_session.specs.State.{kept_state}
 use Rattle.sota_app.specs.Script.{session_ask}
 use Rattle.sota_app.specs.Shown.{plan_result}
 use Rattle.sota_app.specs.Outcome.{shown}
-use Rattle.sota_app.specs.Work.{shown_pushes}
 use Rattle.sota_app.proofs.Worked.{shown_all, shown_first, refused_count}
 use Rattle.sota_app.specs.declared.stop.Stop.TheVariants as stops
 use Rattle.sota_app.proofs.Made.{nothing_made}

@@ -1,4 +1,12 @@
-use Rattle.std.proofs.Common.{List, ℕ, map, string_bytes, subst}
+use Rattle.std.proofs.Common.{◌≡◌, List, ℕ, None, map, string_bytes, subst}
+use Rattle.sota_script.specs.declared.command.Command.{Command}
+use Rattle.sota_script.specs.declared.command.Command.TheVariants.{Route, Need}
+use Rattle.sota_route.specs.Faults.{route_fault}
+use Rattle.sota_route.specs.Bounds.{route_answer}
+use Rattle.sota_app.specs.Script.{command_refusal, allowance_of}
+use Rattle.sota_app.specs.Commands.{command_net}
+use Rattle.sota_app.specs.declared.reply.Refusal.TheVariants as refusals
+use Rattle.sota_app.proofs.Commanded.{command_replied, none_of}
 use Rattle.sota_network.specs.Network.{IsNet}
 use Rattle.sota_session.specs.Asks.{answer_of}
 use Rattle.sota_session.specs.Plans.{plan_table}
@@ -120,3 +128,45 @@ returns-in-Err-PutFailed-clause-idle g c = λ idle. absurd idle
 
 pub returns-in-Err-NoMemory-clause-idle : goal.returns-in-Err-NoMemory-clause-idle
 returns-in-Err-NoMemory-clause-idle g c = λ idle. absurd idle
+
+pub returns-in-Ok-clause-bracketed : goal.returns-in-Ok-clause-bracketed
+returns-in-Ok-clause-bracketed g c = λ files line dest budget arcs tells none ran done is.
+    let words : List (List ℕ) = map (λ word. string_bytes word) c.args.words.now in
+    let net = command_net line in
+    let valid : IsNet net =
+    keeps_network c.built_times.ensures.at_most c.edits_keep_networks.ensures line.above line.net
+    (means_network c.texts_mean_graphs.ensures c.texts_mean_networks.ensures.text
+    c.texts_mean_networks.ensures.weights c.made_networks.ensures.valid (request_of words)
+    (all_sized words) files (record { net = line.net; job = play done.lines }) done.request) in
+    let all = exact _ _ _ _ _ _ _ tells none ran c.in-Ok.ensures.ended.cause in
+    let clear : route_fault net dest budget arcs ≡ None =
+    none_of (λ fault. refusals.Route fault) (route_fault net dest budget arcs)
+    (subst (λ (command : Command). command_refusal net command ≡ None) is done.accepted) in
+    record {
+      answer = route_answer net dest arcs budget;
+      written = command_replied line words (request_of words) files _ _ _ _ _ (Route dest budget arcs) is done
+          done.request all;
+      meant = λ o start. c.routes_are_enclosed.ensures net dest budget o arcs valid clear start;
+    }
+
+pub returns-in-Ok-clause-allowed : goal.returns-in-Ok-clause-allowed
+returns-in-Ok-clause-allowed g c = λ files line ask confidence tells none ran done is.
+    let words : List (List ℕ) = map (λ word. string_bytes word) c.args.words.now in
+    let net = command_net line in
+    let valid : IsNet net =
+    keeps_network c.built_times.ensures.at_most c.edits_keep_networks.ensures line.above line.net
+    (means_network c.texts_mean_graphs.ensures c.texts_mean_networks.ensures.text
+    c.texts_mean_networks.ensures.weights c.made_networks.ensures.valid (request_of words)
+    (all_sized words) files (record { net = line.net; job = play done.lines }) done.request) in
+    let all = exact _ _ _ _ _ _ _ tells none ran c.in-Ok.ensures.ended.cause in
+    let law = c.needs_by_trees.ensures in
+    record {
+      need = (allowance_of net ask confidence).need;
+      written = command_replied line words (request_of words) files _ _ _ _ _ (Need ask confidence) is done
+          done.request all;
+      none = λ t no within. law.none net ask.dest ask.origin confidence ask.budget t valid no within;
+      too_early = λ early t some less.
+          law.below net ask.dest ask.origin confidence ask.budget early t valid some less;
+      in_time = λ sure some.
+          (law.within net ask.dest ask.origin confidence ask.budget sure valid some).1;
+    }

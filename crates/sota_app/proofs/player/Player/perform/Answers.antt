@@ -1,5 +1,3 @@
-use Rattle.std.proofs.Common.{◌≡◌}
-use Rattle.sota_app.specs.Script.{session_ask}
 use Rattle.sota_app.proofs.player.Player.perform.Goals as goal
 
 pub returns-in_ok-answer-in-Ask-clause-effort : goal.returns-in_ok-answer-in-Ask-clause-effort
