@@ -27,7 +27,7 @@ const TIGHT_POLICY: &[u8] = b"SOTAPOL1\0\0\0\x02\0\0\0\x02\0\0\0\x01\0\0\0\x04\0
 const STUCK_POLICY: &[u8] = b"SOTAPOL1\0\0\0\x02\0\0\0\x02\0\0\0\x01\0\0\0\x04\0\0\0\x01\0\0\0\0";
 
 /// Each by its name.
-pub(crate) const FILES: [(&str, &[u8]); 51] = [
+pub(crate) const FILES: [(&str, &[u8]); 53] = [
     // Graphs.
     ("triangle", TRIANGLE),
     ("road", b"p sp 2 1\na 1 2 5\n"),
@@ -82,6 +82,12 @@ pub(crate) const FILES: [(&str, &[u8]); 51] = [
         "faulty",
         b"go\nask 1 3\nedit 2 1-4\nedit 9 1:5\nedit 2 0:1 1:1\nedit 2 1:1 1:1\nclose",
     ),
+    (
+        "routes",
+        b"route 3 3 1 2\nroute 3 3 3\nroute 3 3 2 1\nroute 2 3 1 2\nroute 3 3 9\n\
+        route 4 3 3\nroute 3 65536 3\nroute 3 3\nroute 3 3 x\nclose 2\nroute 3 3 1 2\n",
+    ),
+    ("chain_route", b"route 3 2 1 2\n"),
     (
         "needs",
         b"need 1 3 0.750000000000000000 9\nneed 3 1 0.000000000000000001 9\n\

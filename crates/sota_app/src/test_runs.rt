@@ -208,6 +208,22 @@ refused 5 ZeroTick
 refused 6 RepeatedTick
 refused 7 Count
 = 1
+> run triangle times routes
+route 3 3 0.500000000000000000 0.500000000000000000 2
+route 3 3 0.750000000000000000 0.750000000000000000 1
+refused 3 Broken 2
+refused 4 NotThere
+refused 5 NoLeg 1
+refused 6 NoDest
+refused 7 Budget
+refused 8 Count
+refused 9 Number
+closed 2
+route 3 3 0.000000000000000000 0.000000000000000000 2
+= 1
+> run chain thirds chain_route
+route 3 2 0.111111111111111111 0.111111111111111112 2
+= 0
 > run triangle times needs
 need 1 3 0.750000000000000000 9 3 3
 need 3 1 0.000000000000000001 9 - -
