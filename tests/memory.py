@@ -71,11 +71,16 @@ void *realloc(void *old, size_t size) {
 }
 """
 
-SCRIPT = b"ask 1 3 2\nedit 2 1:4\npolicy 1 3 3 plan\nask 1 3 2\nask 1 3 9\nclose 3\nask 1 3 9\n"
+SCRIPT = (
+    b"ask 1 3 2\nedit 2 1:4\npolicy 1 3 3 plan\nask 1 3 2\nask 1 3 9\nclose 3\nask 1 3 9\n"
+    b"route 3 3 1 2\nneed 1 3 0.750000000000000000 9\n"
+)
 CASES = [
     ("script", ["run", "graph", "hists", "script"]),
     ("ask", ["ask", "graph", "hists", "1", "3", "3"]),
     ("check", ["check", "graph", "hists", "policy"]),
+    ("replay", ["replay", "graph", "hists", "policy", "100", "7"]),
+    ("make", ["make", "7", "40", "120", "12", "180"]),
 ]
 ALWAYS = 2**63
 
