@@ -17,6 +17,7 @@ the same line of answer, and `plan_s SECONDS` on standard error.
     city                         the example city, a tick a second
 """
 import argparse
+import multiprocessing
 import os
 import random
 import subprocess
@@ -33,10 +34,10 @@ CASES = [
     ("middling", ("made", 7, 400, 1200, 120), (1, 400, 1800)),
     ("wide", ("made", 3, 1500, 4500, 300), (1, 1500, 2000)),
     ("widest", ("made", 5, 200, 600, 1000), (1, 200, 5000)),
-    ("roads-1k", ("roads", 1, 32, 24), (1, 528, 900)),
-    ("roads-10k", ("roads", 2, 100, 24), (506, 9091, 1700)),
-    ("roads-100k", ("roads", 3, 316, 24), (50001, 59900, 900)),
-    ("roads-1M", ("roads", 4, 1000, 24), (500501, 530520, 900)),
+    ("roads-1k", ("roads", 1, 32, 24), (1, 1024, 1800)),
+    ("roads-10k", ("roads", 2, 100, 24), (506, 9091, 4500)),
+    ("roads-100k", ("roads", 3, 316, 24), (50001, 75360, 3800)),
+    ("roads-900k", ("roads", 4, 930, 8), (432915, 460840, 1300)),
     ("star", ("star", 916), (2, 1, 65535)),
     ("city", ("city",), (40, 27, 230)),
     ("city-wide", ("city",), (1, 64, 3600)),
@@ -112,12 +113,9 @@ def star(nodes):
 MAKERS = {"made": made, "roads": roads, "star": star}
 
 
-def write(folder, network):
-    """Writes the two files of a network, and answers their names."""
-    if network[0] == "city":
-        return [os.path.join(ROOT, "examples", "city_grid" + end) for end in (".gr", ".csv")]
+def write(graph, hists, network):
+    """Writes the two files of a network."""
     nodes, scale, arcs = MAKERS[network[0]](*network[1:])
-    graph, hists = os.path.join(folder, "plans.gr"), os.path.join(folder, "plans.csv")
     with open(graph, "w") as out:
         out.write(f"p sp {nodes} {len(arcs)}\n")
         out.writelines(f"a {tail} {head} {weight}\n" for tail, head, weight, _ in arcs)
@@ -125,7 +123,18 @@ def write(folder, network):
         out.write(f"arc,tick,mass/{scale}\n")
         for number, (_, _, _, pairs) in enumerate(arcs, start=1):
             out.writelines(f"{number},{tick},{mass}\n" for tick, mass in pairs)
-    return [graph, hists]
+
+
+def files_of(folder, network):
+    """The two files of a network, made where they are not there. Another process makes them, since
+    a child's peak of memory counts what its parent held when it began."""
+    if network[0] == "city":
+        return [os.path.join(ROOT, "examples", "city_grid" + end) for end in (".gr", ".csv")]
+    files = [os.path.join(folder, "plans" + end) for end in (".gr", ".csv")]
+    maker = multiprocessing.Process(target=write, args=(*files, network))
+    maker.start()
+    maker.join()
+    return files
 
 
 def run(words):
@@ -164,7 +173,7 @@ def measure(given, files, ask):
 def row(given, name, network, ask):
     """Prints the row of a case, and answers whether all programs gave the same answer."""
     with tempfile.TemporaryDirectory() as folder:
-        files = write(folder, network)
+        files = files_of(folder, network)
         reading, planning, peak, answer, others = measure(given, files, [str(word) for word in ask])
     cells = [name, f"{reading:.2f}", f"{planning:.2f}", f"{peak:.0f}"]
     for plan, most, _ in others:
