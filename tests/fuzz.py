@@ -31,7 +31,7 @@ PLAN = bytes.fromhex(
     "00000002 00000001 00000002 00000002 06f05b59d3b20000 00000002 06f05b59d3b20000"
 )
 LINES = [b"ask 1 3 2", b"edit 2 1:2 3:2", b"close 3", b"policy 4 3 3 name", b"# note", b"",
-         b"\task 3 1 9", b"edit 3 3:3 5:1"]
+         b"\task 3 1 9", b"edit 3 3:3 5:1", b"route 3 3 1 2", b"need 1 3 0.750000000000000000 9"]
 
 GRAIN = rb"[01]\.\d{18}"
 ANSWER = rb"answer \d+ \d+ \d+ " + GRAIN + rb" " + GRAIN + rb" (-|\d+)"
@@ -42,7 +42,9 @@ CAUSES = {
     "policy": rb"Magic|Truncated|Order|Range|Trailing",
 }
 LINE_CAUSES = (rb"Word|Count|Number|Name|ZeroTick|RepeatedTick|Sum|NoArc|NoOrigin|NoDest|Budget"
-               rb"|TableCells \d+|BroadCells \d+")
+               rb"|NotThere|(TableCells|BroadCells|RouteArcs|NoLeg|Broken) \d+")
+REPLY = (ANSWER + rb"|edited \d+|closed \d+|route \d+ \d+ " + GRAIN + rb" " + GRAIN + rb" \d+"
+         rb"|need \d+ \d+ " + GRAIN + rb" \d+ (-|\d+) (-|\d+)")
 VERDICT = (rb"accepted \d+ \d+ \d+ " + GRAIN + rb"|rejected (Size|Scale)"
            rb"|rejected (NoArc|WrongTail|Value) \d+ \d+")
 
@@ -148,15 +150,15 @@ def fuzz_script(rounds, seed, sota):
         lines = [line for line in lines if not re.match(rb"[ \t]*policy[ \t]", line)]
         runner.write("script", b"\n".join(lines) + b"\n")
         status, out, message = runner.run(["run", "graph", "hists", "script"])
-        wanted = rb"(" + ANSWER + rb"|refused (\d+) (" + LINE_CAUSES + rb")|edited \d+|closed \d+)"
+        wanted = rb"(?:" + REPLY + rb"|refused (?P<line>\d+) (" + LINE_CAUSES + rb"))"
         if message or status not in (0, 1):
             return f"script, seed {seed}: status {status}, message {message!r}"
         last = 0
         for reply in out.splitlines():
             found = re.fullmatch(wanted, reply)
-            if not found or (found[3] and not last < int(found[3]) <= len(lines)):
+            if not found or (found["line"] and not last < int(found["line"]) <= len(lines)):
                 return f"script, seed {seed}: a reply {reply!r}"
-            last = int(found[3] or last)
+            last = int(found["line"] or last)
         left -= 50_000
     return None
 
