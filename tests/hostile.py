@@ -39,6 +39,13 @@ TEXT_LIMIT = 67_108_864
 DONE, REFUSED, WORDS, INPUT, UNREAD, UNWRITTEN, MEMORY, NO_WORDS = range(8)
 ASK = ["ask", "graph", "hists", "1", "3", "2"]
 RUN = ["run", "graph", "hists", "script"]
+REPLAY = ["replay", "graph", "hists", "plan", "5", "7"]
+MAKE = ["make", "1", "2", "2", "1", "20"]
+TRIPS = b"trips 5 arrived 3 late 2 stuck 0 lost 0\n"
+MADE = (
+    b"made 2 2 16 236\nanswer 1 2 20 1.000000000000000000 1.000000000000000000 1\n"
+    b"accepted 1 2 20 1.000000000000000000\n"
+)
 
 
 def play(folder, words, stdout=subprocess.PIPE, before=None, wait=120):
@@ -88,13 +95,18 @@ class Hostile(InFolder):
     """What a machine, a disk or a stranger's file can do."""
 
     def test_all_is_well(self):
-        """Without an enemy both commands answer."""
+        """Without an enemy all commands answer."""
         self.wants(ASK, DONE, ANSWER)
         self.wants(RUN, DONE, REPLIES)
+        self.write("plan", PLAN)
+        self.wants(REPLAY, DONE, TRIPS)
+        self.wants(MAKE, DONE, MADE)
 
     def test_words(self):
         """Words that are no command, and words that are not UTF-8."""
-        for words in ([], ["ask"], ASK + ["1"], ["Ask"] + ASK[1:], ASK[:5] + ["x"], [""], ["run"]):
+        for words in ([], ["ask"], ASK + ["1"], ["Ask"] + ASK[1:], ASK[:5] + ["x"], [""], ["run"],
+                      REPLAY[:5], REPLAY[:4] + ["1000001", "7"], REPLAY[:5] + ["4294967296"],
+                      MAKE[:5], MAKE[:2] + ["1", "2", "1", "20"], MAKE + ["1"]):
             self.wants(words, WORDS, b"refused words\n")
         for words in ([b"\xff"], ["ask", "graph", b"\xfe\xff", "1", "3", "2"]):
             self.wants(words, NO_WORDS, b"")
@@ -106,6 +118,7 @@ class Hostile(InFolder):
             self.wants(["ask", "graph", name, "1", "3", "2"], UNREAD, b"")
             self.wants(["run", "graph", "hists", name], UNREAD, b"")
             self.wants(["check", "graph", "hists", name], UNREAD, b"")
+            self.wants(["replay", "graph", "hists", name, "1", "1"], UNREAD, b"")
 
     def test_a_file_without_leave_to_read(self):
         """A file that the user may not read."""
@@ -116,7 +129,9 @@ class Hostile(InFolder):
 
     def test_outputs_that_fail(self):
         """A full device, a pipe that nobody reads, and no output at all."""
-        for words in (ASK, RUN, ["nonsense"], ["ask", "folder/x", "-", "1", "3", "2"]):
+        self.write("plan", PLAN)
+        for words in (ASK, RUN, REPLAY, MAKE, ["nonsense"],
+                      ["ask", "folder/x", "-", "1", "3", "2"]):
             status = UNREAD if "folder/x" in words else UNWRITTEN
             with open("/dev/full", "wb") as full:
                 self.wants(words, status, None, stdout=full)
