@@ -90,8 +90,10 @@ def roads(seed, side, width):
     scale, draw, out = 1_000_000, random.Random(seed), []
     for node in range(1, side * side + 1):
         row, column = divmod(node - 1, side)
-        others = ([node + 1] if column + 1 < side else []) + ([node + side] if row + 1 < side else [])
-        for tail, head in [pair for other in others for pair in ((node, other), (other, node))]:
+        east = [node + 1] if column + 1 < side else []
+        south = [node + side] if row + 1 < side else []
+        ways = [(node, other) for other in east + south]
+        for tail, head in [end for way in ways for end in (way, way[::-1])]:
             weight, pairs = draw.randint(5, 60), []
             if draw.random() < 0.05:
                 shares = [draw.random() for _ in range(width)]
@@ -150,7 +152,8 @@ def run(words):
 
 
 def plan_seconds(notes):
-    return next((float(line.split()[1]) for line in notes.splitlines() if line.startswith("plan_s ")), 0.0)
+    lines = [line.split() for line in notes.splitlines()]
+    return next((float(line[1]) for line in lines if line[:1] == ["plan_s"]), 0.0)
 
 
 def measure(given, files, ask):
@@ -192,9 +195,11 @@ def other(text):
 
 
 def main():
-    words = argparse.ArgumentParser(description=__doc__, formatter_class=argparse.RawDescriptionHelpFormatter)
+    words = argparse.ArgumentParser(
+        description=__doc__, formatter_class=argparse.RawDescriptionHelpFormatter)
     words.add_argument("--sota", default=BUILT)
-    words.add_argument("--other", dest="others", action="append", type=other, default=[], metavar="NAME=PATH:KIND")
+    words.add_argument("--other", dest="others", action="append", type=other, default=[],
+                       metavar="NAME=PATH:KIND")
     words.add_argument("--cases", nargs="*", default=[name for name, _, _ in CASES])
     words.add_argument("--rounds", type=int, default=3)
     given = words.parse_args()

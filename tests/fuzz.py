@@ -16,6 +16,7 @@ import multiprocessing
 import os
 import random
 import re
+import shutil
 import subprocess
 import sys
 import tempfile
@@ -74,6 +75,65 @@ def mutated(draw, text):
     return bytes(data)
 
 
+# Runs a program once for each of so many files, with the file's name for the word "@", and hands
+# over the status and the two outputs of each run. Starting a program from here takes a fifth of the
+# time that it takes from Python. A run of more than 20 seconds of processor time is ended.
+SPAWNER = r"""
+#define _GNU_SOURCE
+#include <fcntl.h>
+#include <spawn.h>
+#include <stdio.h>
+#include <stdlib.h>
+#include <string.h>
+#include <sys/resource.h>
+#include <sys/wait.h>
+#include <unistd.h>
+
+extern char **environ;
+
+static void hand_over(int file, long size) {
+    char data[4096];
+    lseek(file, 0, SEEK_SET);
+    while (size > 0) {
+        ssize_t got = read(file, data, sizeof data);
+        if (got <= 0) exit(1);
+        fwrite(data, 1, (size_t)got, stdout);
+        size -= got;
+    }
+}
+
+int main(int count, char **words) {
+    struct rlimit limit = {20, 20};
+    int out = open("out", O_RDWR | O_CREAT, 0600), err = open("err", O_RDWR | O_CREAT, 0600);
+    char name[32];
+    setrlimit(RLIMIT_CPU, &limit);
+    for (int word = 3; word < count; word++) if (!strcmp(words[word], "@")) words[word] = name;
+    for (long at = 0, runs = atol(words[1]); at < runs; at++) {
+        posix_spawn_file_actions_t actions;
+        pid_t child;
+        int status;
+        snprintf(name, sizeof name, "t%ld", at);
+        if (ftruncate(out, 0) || ftruncate(err, 0)) return 1;
+        lseek(out, 0, SEEK_SET);
+        lseek(err, 0, SEEK_SET);
+        posix_spawn_file_actions_init(&actions);
+        posix_spawn_file_actions_addopen(&actions, 0, "/dev/null", O_RDONLY, 0);
+        posix_spawn_file_actions_adddup2(&actions, out, 1);
+        posix_spawn_file_actions_adddup2(&actions, err, 2);
+        if (posix_spawn(&child, words[2], &actions, 0, words + 2, environ)) return 1;
+        posix_spawn_file_actions_destroy(&actions);
+        if (waitpid(child, &status, 0) != child) return 1;
+        status = WIFEXITED(status) ? WEXITSTATUS(status) : -WTERMSIG(status);
+        long written = lseek(out, 0, SEEK_END), noted = lseek(err, 0, SEEK_END);
+        printf("%d %ld %ld\n", status, written, noted);
+        hand_over(out, written);
+        hand_over(err, noted);
+    }
+    return 0;
+}
+"""
+
+
 class Runner:
     """Runs the program on the files of a folder of its own."""
 
@@ -82,6 +142,29 @@ class Runner:
         self.folder = tempfile.TemporaryDirectory()
         for name, data in [("graph", GRAPH), ("hists", HISTS), ("policy", PLAN)]:
             self.write(name, data)
+        self.spawner = None
+        if shutil.which("cc"):
+            self.write("spawn.c", SPAWNER.encode())
+            self.spawner = os.path.join(self.folder.name, "spawn")
+            subprocess.run(["cc", "-O1", "-o", self.spawner, self.spawner + ".c"], check=True)
+
+    def run_all(self, words, texts):
+        """The answers to words in which "@" is the name of each of the texts in turn."""
+        for number, data in enumerate(texts):
+            self.write(f"t{number}", data)
+        if self.spawner is None:
+            for number in range(len(texts)):
+                yield self.run([f"t{number}" if word == "@" else word for word in words])
+            return
+        done = subprocess.run([self.spawner, str(len(texts)), self.sota, *words], check=True,
+                              cwd=self.folder.name, stdout=subprocess.PIPE)
+        at, answers = 0, done.stdout
+        for _ in texts:
+            end = answers.index(b"\n", at)
+            status, out, err = (int(word) for word in answers[at:end].split())
+            at = end + 1
+            yield status, answers[at:at + out], answers[at + out:at + out + err]
+            at += out + err
 
     def write(self, name, data):
         """Writes a file of the folder."""
@@ -120,21 +203,21 @@ def fault_of(reader, status, out, message, text):
 
 
 def fuzz_files(reader, rounds, seed, sota):
-    """Rounds of one reader. Answers the first wrong one, or None."""
+    """Rounds of one reader, many in a run of the spawner. Answers the first wrong one, or None."""
     draw = random.Random(f"{reader} {seed}")
     runner = Runner(sota)
     text = {"graph": GRAPH, "hists": HISTS, "policy": PLAN}[reader]
-    words = ["check", "graph", "hists", "policy"] if reader == "policy" else \
-        ["ask", "graph", "hists", "1", "3", "3"]
-    if reader == "graph":
-        words[2] = "-"
-    for number in range(rounds):
-        data = mutated(draw, text)
-        runner.write(reader, data)
-        answer = runner.run(words)
-        fault = fault_of(reader, *answer, data)
-        if fault:
-            return f"{reader}, seed {seed}, round {number}: {fault}: {data!r} gives {answer!r}"
+    words = {"graph": ["ask", "@", "-", "1", "3", "3"],
+             "hists": ["ask", "graph", "@", "1", "3", "3"],
+             "policy": ["check", "graph", "hists", "@"]}[reader]
+    done = 0
+    while done < rounds:
+        texts = [mutated(draw, text) for _ in range(min(1000, rounds - done))]
+        for number, (data, answer) in enumerate(zip(texts, runner.run_all(words, texts)), done):
+            fault = fault_of(reader, *answer, data)
+            if fault:
+                return f"{reader}, seed {seed}, round {number}: {fault}: {data!r} gives {answer!r}"
+        done += len(texts)
     return None
 
 

@@ -270,8 +270,9 @@ class Large(InFolder):
              b"answer 1 3 2 1.000000000000000000 1.000000000000000000 1\n"),
             ("hists", b"arc,tick,mass/4\n" + b"2,1,1\n" * ((TEXT_LIMIT - 16) // 6), ASK, INPUT,
              b"refused hists RepeatedTick 2\n"),
-            ("hists", b"arc,tick,mass/999999999\n" + falling, ["ask", "graph", "hists", "1", "3", "3"],
-             DONE, b"answer 1 3 3 1.000000000000000000 1.000000000000000000 3\n"),
+            ("hists", b"arc,tick,mass/999999999\n" + falling,
+             ["ask", "graph", "hists", "1", "3", "3"], DONE,
+             b"answer 1 3 3 1.000000000000000000 1.000000000000000000 3\n"),
             ("script", b"\n" * TEXT_LIMIT, RUN, DONE, b""),
             ("script", b"x" * TEXT_LIMIT, RUN, REFUSED, b"refused 1 Word\n"),
         ]:

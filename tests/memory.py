@@ -10,6 +10,7 @@ between are refused. Standard library alone; skipped with a word where there is 
 
     tests/memory.py                         over crates/sota/out/sota
     tests/memory.py --sota PATH --most N    at most N allocations of each case are refused
+    tests/memory.py --large --most 60       a large made network alone, which takes a minute or two
 """
 import argparse
 import os
@@ -82,6 +83,7 @@ CASES = [
     ("replay", ["replay", "graph", "hists", "policy", "100", "7"]),
     ("make", ["make", "7", "40", "120", "12", "180"]),
 ]
+LARGE = [("large", ["make", "7", "400", "1200", "120", "1800"])]
 ALWAYS = 2**63
 
 
@@ -148,6 +150,7 @@ def main():
         description=__doc__, formatter_class=argparse.RawDescriptionHelpFormatter)
     words.add_argument("--sota", default=SOTA)
     words.add_argument("--most", type=int, default=400)
+    words.add_argument("--large", action="store_true")
     given = words.parse_args()
     SOTA = os.path.abspath(given.sota)
     if not shutil.which("cc"):
@@ -156,10 +159,11 @@ def main():
     faults = 0
     with tempfile.TemporaryDirectory() as folder:
         shim = compile_shim(folder)
-        for name, data in [("graph", GRAPH), ("hists", HISTS), ("script", SCRIPT), ("policy", PLAN)]:
+        files = {"graph": GRAPH, "hists": HISTS, "script": SCRIPT, "policy": PLAN}
+        for name, data in files.items():
             with open(os.path.join(folder, name), "wb") as out:
                 out.write(data)
-        for name, command in CASES:
+        for name, command in LARGE if given.large else CASES:
             case = Case(folder, shim, command)
             numbers = case.refusals(given.most)
             for first in numbers:
