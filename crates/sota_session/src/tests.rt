@@ -278,6 +278,23 @@ fn policies_of_one_arc(rt: HostRuntime) -> Result<(), Fail> {
     same_policy(&rt, rt.alloc(), &mut session, (1, 2, 4), &LATE)
 }
 
+// An ask that found no memory, asked again. Here there is enough; `rt try --test --fail-alloc N` has
+// one allocation find none.
+#[test]
+fn asks_after_a_want(rt: HostRuntime) -> Result<(), Fail> {
+    let mut session = Session::new(rt.alloc(), triangle(rt.alloc())?)?;
+    let answer = Answer {
+        lower: Grain::new(SURELY).ok_or("a whole")?,
+        upper: Grain::new(SURELY).ok_or("a whole")?,
+        next: Some(ArcId(1)),
+    };
+    for _ in 0..3 {
+        let found = ask(&mut session, 1, 3, 9);
+        assert!(rt; found == Ok(answer) || found == Err(AskFault::NoMemory));
+    }
+    Ok(())
+}
+
 #[test]
 fn refused_asks(rt: HostRuntime) -> Result<(), Fail> {
     let mut session = Session::new(rt.alloc(), one_road(rt.alloc(), 2)?)?;
