@@ -2,7 +2,7 @@
 use Rattle.std.proofs.Common.{◌≡◌, ℕ, ◌+◌, ◌-◌, ◌≤◌, suc, List, [], ◌∷◌, Bool, true, false, cond, not, ◌==◌, nat_lt, map, filter, length, take, drop, slice_range, slice_index, refl, sym, ◌∙◌, ap, subst, arith, add-zero, length-drop, length-take-le, take-take, take_all, drop-drop}
 use Rattle.std.specs.List.{slice_split, onto_first, enumerate_from}
 use Rattle.sota_text.specs.Text.{is_empty, pieces_ended, without_cr}
-use Rattle.sota_text.specs.Spans.{bytes_of, AreWithin, placed, placed_lines}
+use Rattle.sota_text.specs.Spans.{bytes_of, AreWithin, AreInOrderFrom, placed, placed_lines}
 use Rattle.sota_text.specs.declared.span.Line.{Line}
 use Rattle.sota_text.proofs.Parts.{some_part}
 use Rattle.sota_text.proofs.Places.{kept, not_below}
@@ -62,6 +62,15 @@ fields_within bytes from (piece ∷ pieces) stand =
     elim (nat_lt from (from + length piece)) as (λ b. AreWithin bytes (cond b (record { from = from; to = from + length piece } ∷ kept (placed (from + length piece + 1) pieces)) (kept (placed (from + length piece + 1) pieces)))) [
       | true ↦ ((omega arith, stand.1), rest)
       | false ↦ rest
+    ]
+
+pub fields_in_order : (at from : ℕ) (pieces : List (List ℕ)) → at ≤ from → AreInOrderFrom at (kept (placed from pieces))
+fields_in_order at from [] h = tt
+fields_in_order at from (piece ∷ pieces) h =
+    let next = from + length piece + 1 in
+    elim (nat_lt from (from + length piece)) as (λ b. AreInOrderFrom at (cond b (record { from = from; to = from + length piece } ∷ kept (placed next pieces)) (kept (placed next pieces)))) [
+      | true ↦ (h, fields_in_order (from + length piece) next pieces (omega arith))
+      | false ↦ fields_in_order at next pieces (omega (arith, h))
     ]
 
 -- ---- lines

@@ -17,6 +17,14 @@ abbrev pub AreWithin : List ℕ → List Span → Type 0
 AreWithin bytes [] = Unit {0}
 AreWithin bytes (span ∷ spans) = IsWithin bytes span × AreWithin bytes spans
 
+-- each span begins where or after the one before it ends, the first one at or after a place
+abbrev pub AreInOrderFrom : ℕ → List Span → Type 0
+AreInOrderFrom at [] = Unit {0}
+AreInOrderFrom at (span ∷ spans) = (at ≤ span.from) × AreInOrderFrom span.to spans
+
+abbrev pub AreInOrder : List Span → Type 0
+AreInOrder spans = AreInOrderFrom 0 spans
+
 -- pieces one after the other, with a separator between two
 abbrev pub placed : ℕ → List (List ℕ) → List Span
 placed from [] = []

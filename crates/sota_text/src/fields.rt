@@ -4,6 +4,7 @@ ghost use Rattle.std.specs.Prelude.{length, drop, map, false, slice_index};
 ghost use Rattle.std.specs.Iterator.{YieldsFirst, item_count};
 ghost use Rattle.sota_text.specs.Text.{is_blank, fields_of};
 ghost use Rattle.sota_text.specs.Spans.{fields_from, field_spans, bytes_of, AreWithin};
+ghost use Rattle.sota_text.specs.Spans.{AreInOrder};
 
 use crate::Span;
 use std::marker::Model;
@@ -33,6 +34,7 @@ impl<'a> Fields<'a> {
         ensures spans { result ≡ field_spans line.now }
         ensures texts { map (bytes_of line.now) result ≡ fields_of line.now }
         ensures within { AreWithin line.now result }
+        ensures order { AreInOrder result }
     {
         Fields { line, at: 0 }
     }

@@ -93,6 +93,6 @@ fn numbers(rt: HostRuntime) -> Result<(), Fail> {
     );
     shown.clear();
     shown.number(0)?;
-    assert_eq!(rt; shown.as_bytes(), b"0".as_slice());
+    assert_eq!(rt; shown.into_vec().as_slice(), b"0".as_slice());
     Ok(())
 }
