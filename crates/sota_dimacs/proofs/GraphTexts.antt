@@ -3,7 +3,7 @@ use Rattle.std.proofs.Common.{◌≡◌, ℕ, ◌+◌, ◌<◌, ◌≤◌, List,
 use Rattle.std.specs.List.{enumerate_from}
 use Rattle.std.proofs.lemmas.List.Elements.{All-nil, All-push, All-head, All-tail}
 use Rattle.sota_units.specs.Limits.{NODE_LIMIT, ARC_LIMIT}
-use Rattle.sota_dimacs.specs.Graph.{is_node, size_fault, arc_fault, fault_or, graph_of, graph_text, text_kinds, IsNode, IsGraph, is_content, graph_lines, IsTextOf}
+use Rattle.sota_dimacs.specs.Graph.{is_node, problem_size_fault, arc_range_fault, or_line_fault, graph_with, graph_text, text_kinds, IsNode, IsGraph, is_content, graph_lines, IsTextOf}
 use Rattle.sota_dimacs.specs.declared.graph.RawArc.{RawArc}
 use Rattle.sota_dimacs.specs.declared.graph.RawGraph.{RawGraph}
 use Rattle.sota_dimacs.specs.declared.fault.GraphFault.{GraphFault}
@@ -27,11 +27,11 @@ pub record Counted (problem : Problem) (arcs : List RawArc) : Type 0 where
   pub tails : All (λ (arc : RawArc). IsNode problem.nodes arc.tail) arcs
   pub heads : All (λ (arc : RawArc). IsNode problem.nodes arc.head) arcs
 
-no_fault : (fault : Option GraphFault) (rest : Result RawGraph GraphFault) (graph : RawGraph) → fault_or fault rest ≡ Ok graph → (fault ≡ None) × (rest ≡ Ok graph)
+no_fault : (fault : Option GraphFault) (rest : Result RawGraph GraphFault) (graph : RawGraph) → or_line_fault fault rest ≡ Ok graph → (fault ≡ None) × (rest ≡ Ok graph)
 no_fault (Some fault) rest graph e = cc
 no_fault None rest graph e = (refl, e)
 
-sizes_counted : (number : ℕ) (problem : Problem) → size_fault number problem ≡ None → Counted problem []
+sizes_counted : (number : ℕ) (problem : Problem) → problem_size_fault number problem ≡ None → Counted problem []
 sizes_counted number problem e =
     elim (problem.nodes == 0) as (λ b. problem.nodes == 0 ≡ b → cond b (Some (BadLine number)) (cond (nat_lt NODE_LIMIT problem.nodes) (Some (TooManyNodes problem.nodes)) (cond (nat_lt ARC_LIMIT problem.arcs) (Some (ArcLimit problem.arcs)) None)) ≡ None → Counted problem []) [
       | true ↦ λ zero e. cc
@@ -60,7 +60,7 @@ and_true true true e = (refl, refl)
 and_true true false e = cc
 and_true false b e = cc
 
-arc_fits : (problem : Problem) (found number : ℕ) (arc : RawArc) → arc_fault problem found number arc ≡ None → ArcFits problem found arc
+arc_fits : (problem : Problem) (found number : ℕ) (arc : RawArc) → arc_range_fault problem found number arc ≡ None → ArcFits problem found arc
 arc_fits problem found number arc e =
     elim (is_node problem.nodes arc.tail && is_node problem.nodes arc.head) as (λ b. (is_node problem.nodes arc.tail && is_node problem.nodes arc.head) ≡ b
     → cond b (cond (nat_lt found problem.arcs) None (Some (TooManyArcs number))) (Some (NodeRange number)) ≡ None → ArcFits problem found arc) [
@@ -92,7 +92,7 @@ pub record Gives (problem : Problem) (arcs : List RawArc) (lines : List LineKind
   pub counted : Counted problem (arcs ++ more)
   pub all : problem.arcs ≤ length (arcs ++ more)
 
-last_gives : (problem : Problem) (arcs : List RawArc) (graph : RawGraph) → Counted problem arcs → graph_of (Some problem) arcs ≡ Ok graph → Gives problem arcs [] graph []
+last_gives : (problem : Problem) (arcs : List RawArc) (graph : RawGraph) → Counted problem arcs → graph_with (Some problem) arcs ≡ Ok graph → Gives problem arcs [] graph []
 last_gives problem arcs graph seen e =
     elim (nat_lt (length arcs) problem.arcs) as (λ b. nat_lt (length arcs) problem.arcs ≡ b → cond b (Err (TooFewArcs (length arcs))) (Ok (record { nodes = problem.nodes; arcs = arcs })) ≡ Ok graph → Gives problem arcs [] graph []) [
       | true ↦ λ few e. cc
@@ -128,7 +128,7 @@ arcs_give problem arcs number (Skipped ∷ lines) graph seen e =
 arcs_give problem arcs number (ProblemLine other ∷ lines) graph seen e = cc
 arcs_give problem arcs number (ArcLine None ∷ lines) graph seen e = cc
 arcs_give problem arcs number (ArcLine (Some arc) ∷ lines) graph seen e =
-    let on = no_fault (arc_fault problem (length arcs) number arc) (rest_of (Some problem) (arcs ++ arc ∷ []) (enumerate_from (number + 1) lines)) graph e in
+    let on = no_fault (arc_range_fault problem (length arcs) number arc) (rest_of (Some problem) (arcs ++ arc ∷ []) (enumerate_from (number + 1) lines)) graph e in
     arc_gives problem arcs lines graph arc
     (arcs_give problem (arcs ++ arc ∷ []) (number + 1) lines graph (one_more problem arcs arc seen (arc_fits problem (length arcs) number arc on.0)) on.1)
 arcs_give problem arcs number (Unknown ∷ lines) graph seen e = cc
@@ -154,7 +154,7 @@ lines_give number [] graph e = cc
 lines_give number (Skipped ∷ lines) graph e = let rest = lines_give (number + 1) lines graph e in record { content = rest.content; limits = rest.limits }
 lines_give number (ProblemLine None ∷ lines) graph e = cc
 lines_give number (ProblemLine (Some problem) ∷ lines) graph e =
-    let on = no_fault (size_fault number problem) (rest_of (Some problem) [] (enumerate_from (number + 1) lines)) graph e in
+    let on = no_fault (problem_size_fault number problem) (rest_of (Some problem) [] (enumerate_from (number + 1) lines)) graph e in
     problem_gives problem lines graph (arcs_give problem [] (number + 1) lines graph (sizes_counted number problem on.0) on.1)
 lines_give number (ArcLine arc ∷ lines) graph e = cc
 lines_give number (Unknown ∷ lines) graph e = cc
@@ -181,7 +181,7 @@ pub record Expected (problem : Problem) (arcs more : List RawArc) : Type 0 where
   pub tails : All (λ (arc : RawArc). IsNode problem.nodes arc.tail) more
   pub heads : All (λ (arc : RawArc). IsNode problem.nodes arc.head) more
 
-fits_no_fault : (problem : Problem) (found number : ℕ) (arc : RawArc) → ArcFits problem found arc → arc_fault problem found number arc ≡ None
+fits_no_fault : (problem : Problem) (found number : ℕ) (arc : RawArc) → ArcFits problem found arc → arc_range_fault problem found number arc ≡ None
 fits_no_fault problem found number arc fits =
     let tail = is_node_of problem.nodes arc.tail fits.tail in
     let head = is_node_of problem.nodes arc.head fits.head in
@@ -215,12 +215,12 @@ arcs_accepted problem arcs (arc ∷ more) number (ArcLine (Some other) ∷ lines
     let rest : filter is_content lines ≡ map arc_line more = cc in
     let next = next_expected problem arcs more arc h in
     let goal : rest_of (Some problem) arcs (enumerate_from number (ArcLine (Some arc) ∷ lines)) ≡ Ok (record { nodes = problem.nodes; arcs = arcs ++ arc ∷ more }) =
-    ap (λ fault. fault_or fault (rest_of (Some problem) (arcs ++ arc ∷ []) (enumerate_from (number + 1) lines))) (fits_no_fault problem (length arcs) number arc next.1)
+    ap (λ fault. or_line_fault fault (rest_of (Some problem) (arcs ++ arc ∷ []) (enumerate_from (number + 1) lines))) (fits_no_fault problem (length arcs) number arc next.1)
     ∙ arcs_accepted problem (arcs ++ arc ∷ []) more (number + 1) lines next.0 rest
     ∙ ap (λ (all : List RawArc). Ok (record { nodes = problem.nodes; arcs = all })) (append_assoc arcs (arc ∷ []) more) in
     subst (λ arc'. rest_of (Some problem) arcs (enumerate_from number (ArcLine (Some arc') ∷ lines)) ≡ Ok (record { nodes = problem.nodes; arcs = arcs ++ arc ∷ more })) (sym same) goal
 
-sizes_no_fault : (number : ℕ) (problem : Problem) → 1 ≤ problem.nodes → problem.nodes ≤ NODE_LIMIT → problem.arcs ≤ ARC_LIMIT → size_fault number problem ≡ None
+sizes_no_fault : (number : ℕ) (problem : Problem) → 1 ≤ problem.nodes → problem.nodes ≤ NODE_LIMIT → problem.arcs ≤ ARC_LIMIT → problem_size_fault number problem ≡ None
 sizes_no_fault number problem some nodes arcs =
     let a : (problem.nodes == 0) ≡ false = grind arith in
     let b : nat_lt NODE_LIMIT problem.nodes ≡ false = grind arith in
@@ -239,7 +239,7 @@ lines_accepted number (ProblemLine (Some other) ∷ lines) graph e limits =
     let rest : filter is_content lines ≡ map arc_line graph.arcs = cc in
     let expected : Expected problem [] graph.arcs = record { all = refl; tails = limits.tails; heads = limits.heads } in
     let goal : rest_of None [] (enumerate_from number (ProblemLine (Some problem) ∷ lines)) ≡ Ok graph =
-    ap (λ fault. fault_or fault (rest_of (Some problem) [] (enumerate_from (number + 1) lines))) (sizes_no_fault number problem limits.some limits.few_nodes limits.few_arcs)
+    ap (λ fault. or_line_fault fault (rest_of (Some problem) [] (enumerate_from (number + 1) lines))) (sizes_no_fault number problem limits.some limits.few_nodes limits.few_arcs)
     ∙ arcs_accepted problem [] graph.arcs (number + 1) lines expected rest in
     subst (λ problem. rest_of None [] (enumerate_from number (ProblemLine (Some problem) ∷ lines)) ≡ Ok graph) (sym same) goal
 

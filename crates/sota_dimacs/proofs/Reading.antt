@@ -7,7 +7,7 @@ use Rattle.sota_text.specs.Text.{text_lines, numbered_lines}
 use Rattle.sota_text.specs.Spans.{bytes_of}
 use Rattle.sota_text.specs.declared.span.Line.{Line}
 use Rattle.sota_dimacs.specs.Lines.{kind_of, line_problem, line_arc}
-use Rattle.sota_dimacs.specs.Graph.{problem_in, arcs_in, line_fault, first_fault, fault_or, graph_of, graph_of_lines, graph_text}
+use Rattle.sota_dimacs.specs.Graph.{problem_in, arcs_in, line_fault, first_line_fault, or_line_fault, graph_with, graph_of_lines, graph_text}
 use Rattle.sota_dimacs.specs.declared.graph.RawArc.{RawArc}
 use Rattle.sota_dimacs.specs.declared.graph.RawGraph.{RawGraph}
 use Rattle.sota_dimacs.specs.declared.fault.GraphFault.{GraphFault}
@@ -16,9 +16,9 @@ use Rattle.sota_dimacs.specs.declared.line.LineKind.{LineKind}
 
 -- the graph, or the fault, of numbered lines after those that announced this problem and these arcs
 abbrev pub rest_of : Option Problem → List RawArc → List (ℕ × LineKind) → Result RawGraph GraphFault
-rest_of problem arcs [] = graph_of problem arcs
+rest_of problem arcs [] = graph_with problem arcs
 rest_of problem arcs (line ∷ lines) =
-    fault_or (line_fault problem (length arcs) line.0 line.1) (rest_of (option_or problem (line_problem line.1)) (arcs ++ option_to_list (line_arc line.1)) lines)
+    or_line_fault (line_fault problem (length arcs) line.0 line.1) (rest_of (option_or problem (line_problem line.1)) (arcs ++ option_to_list (line_arc line.1)) lines)
 
 or_assoc : {X : Type 0} (a b c : Option X) → option_or a (option_or b c) ≡ option_or (option_or a b) c
 or_assoc (Some x) b c = refl
@@ -39,17 +39,17 @@ one_arc None = refl
 arcs_push : (before : List LineKind) (line : LineKind) → arcs_in (before ++ line ∷ []) ≡ arcs_in before ++ option_to_list (line_arc line)
 arcs_push before line = filter_map-append line_arc before (line ∷ []) ∙ ap (λ arcs. arcs_in before ++ arcs) (one_arc (line_arc line))
 
-fault_first : (fault other : Option GraphFault) (a b : Result RawGraph GraphFault) → fault_or other a ≡ b → fault_or (option_or fault other) a ≡ fault_or fault b
+fault_first : (fault other : Option GraphFault) (a b : Result RawGraph GraphFault) → or_line_fault other a ≡ b → or_line_fault (option_or fault other) a ≡ or_line_fault fault b
 fault_first (Some fault) other a b h = refl
 fault_first None other a b h = h
 
 -- the graph of lines of which some stand before
 abbrev pub graph_after : List LineKind → List LineKind → List LineKind → Result RawGraph GraphFault
-graph_after before lines all = fault_or (first_fault before lines) (graph_of (problem_in all) (arcs_in all))
+graph_after before lines all = or_line_fault (first_line_fault before lines) (graph_with (problem_in all) (arcs_in all))
 
 rest_is : (before lines : List LineKind) (number : ℕ) → length before + 1 ≡ number
     → graph_after before lines (before ++ lines) ≡ rest_of (problem_in before) (arcs_in before) (enumerate_from number lines)
-rest_is before [] number at = ap (λ all. graph_of (problem_in all) (arcs_in all)) (append-nil before)
+rest_is before [] number at = ap (λ all. graph_with (problem_in all) (arcs_in all)) (append-nil before)
 rest_is before (line ∷ lines) number at =
     let after : length (before ++ line ∷ []) + 1 ≡ number + 1 = omega (arith, length-append before (line ∷ [])) in
     let rest : graph_after (before ++ line ∷ []) lines (before ++ line ∷ lines) ≡ rest_of (option_or (problem_in before) (line_problem line)) (arcs_in before ++ option_to_list (line_arc line)) (enumerate_from (number + 1) lines) =
@@ -57,8 +57,8 @@ rest_is before (line ∷ lines) number at =
     ∙ rest_is (before ++ line ∷ []) lines (number + 1) after
     ∙ ap (λ problem. rest_of problem (arcs_in (before ++ line ∷ [])) (enumerate_from (number + 1) lines)) (problem_push before line)
     ∙ ap (λ arcs. rest_of (option_or (problem_in before) (line_problem line)) arcs (enumerate_from (number + 1) lines)) (arcs_push before line) in
-    fault_first (line_fault (problem_in before) (length (arcs_in before)) (length before + 1) line) (first_fault (before ++ line ∷ []) lines) _ _ rest
-    ∙ ap (λ n. fault_or (line_fault (problem_in before) (length (arcs_in before)) n line) (rest_of (option_or (problem_in before) (line_problem line)) (arcs_in before ++ option_to_list (line_arc line)) (enumerate_from (number + 1) lines))) at
+    fault_first (line_fault (problem_in before) (length (arcs_in before)) (length before + 1) line) (first_line_fault (before ++ line ∷ []) lines) _ _ rest
+    ∙ ap (λ n. or_line_fault (line_fault (problem_in before) (length (arcs_in before)) n line) (rest_of (option_or (problem_in before) (line_problem line)) (arcs_in before ++ option_to_list (line_arc line)) (enumerate_from (number + 1) lines))) at
 
 -- all lines, where nothing was seen before
 pub rest_of_all : (lines : List LineKind) → rest_of None [] (enumerate_from 1 lines) ≡ graph_of_lines lines

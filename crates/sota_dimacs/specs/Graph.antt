@@ -38,26 +38,26 @@ arcs_in lines = filter_map line_arc lines
 -- ---- faults
 
 -- a graph has a node
-abbrev pub size_fault : ℕ → Problem → Option GraphFault
-size_fault number problem =
+abbrev pub problem_size_fault : ℕ → Problem → Option GraphFault
+problem_size_fault number problem =
     if problem.nodes == 0 then Some (BadLine number)
     else (if nat_lt NODE_LIMIT problem.nodes then Some (TooManyNodes problem.nodes)
     else (if nat_lt ARC_LIMIT problem.arcs then Some (ArcLimit problem.arcs) else None))
 
-abbrev pub arc_fault : Problem → ℕ → ℕ → RawArc → Option GraphFault
-arc_fault problem found number arc =
+abbrev pub arc_range_fault : Problem → ℕ → ℕ → RawArc → Option GraphFault
+arc_range_fault problem found number arc =
     if is_node problem.nodes arc.tail && is_node problem.nodes arc.head
     then (if nat_lt found problem.arcs then None else Some (TooManyArcs number))
     else Some (NodeRange number)
 
 abbrev pub problem_line_fault : Option Problem → ℕ → Option Problem → Option GraphFault
 problem_line_fault (Some before) number problem = Some (SecondProblem number)
-problem_line_fault None number (Some problem) = size_fault number problem
+problem_line_fault None number (Some problem) = problem_size_fault number problem
 problem_line_fault None number None = Some (BadLine number)
 
 abbrev pub arc_line_fault : Option Problem → ℕ → ℕ → Option RawArc → Option GraphFault
 arc_line_fault None found number arc = Some (ArcBeforeProblem number)
-arc_line_fault (Some problem) found number (Some arc) = arc_fault problem found number arc
+arc_line_fault (Some problem) found number (Some arc) = arc_range_fault problem found number arc
 arc_line_fault (Some problem) found number None = Some (BadLine number)
 
 -- the fault of the line of this number, after lines with this problem and so many arcs
@@ -69,29 +69,31 @@ line_fault problem found number Unknown = Some (BadLine number)
 
 -- the fault of the first line that has one, of lines that stand after others; lines are counted
 -- from 1
-abbrev pub first_fault : List LineKind → List LineKind → Option GraphFault
-first_fault before [] = None
-first_fault before (line ∷ lines) =
+abbrev pub first_line_fault : List LineKind → List LineKind → Option GraphFault
+first_line_fault before [] = None
+first_line_fault before (line ∷ lines) =
     let number = length before + 1 in
     option_or (line_fault (problem_in before) (length (arcs_in before)) number line)
-    (first_fault (before ++ line ∷ []) lines)
+    (first_line_fault (before ++ line ∷ []) lines)
 
 -- ---- the whole text
 
 -- the graph of a problem and arcs without a fault of a line, or the fault of the whole
-abbrev pub graph_of : Option Problem → List RawArc → Result RawGraph GraphFault
-graph_of None arcs = Err NoProblem
-graph_of (Some problem) arcs =
+abbrev pub graph_with : Option Problem → List RawArc → Result RawGraph GraphFault
+graph_with None arcs = Err NoProblem
+graph_with (Some problem) arcs =
     if nat_lt (length arcs) problem.arcs then Err (TooFewArcs (length arcs))
     else Ok (record { nodes = problem.nodes; arcs = arcs })
 
 -- a line's fault comes before those of the whole
-abbrev pub fault_or : Option GraphFault → Result RawGraph GraphFault → Result RawGraph GraphFault
-fault_or (Some fault) graph = Err fault
-fault_or None graph = graph
+abbrev pub or_line_fault : Option GraphFault → Result RawGraph GraphFault
+    → Result RawGraph GraphFault
+or_line_fault (Some fault) graph = Err fault
+or_line_fault None graph = graph
 
 abbrev pub graph_of_lines : List LineKind → Result RawGraph GraphFault
-graph_of_lines lines = fault_or (first_fault [] lines) (graph_of (problem_in lines) (arcs_in lines))
+graph_of_lines lines =
+    or_line_fault (first_line_fault [] lines) (graph_with (problem_in lines) (arcs_in lines))
 
 abbrev pub text_kinds : List ℕ → List LineKind
 text_kinds bytes = map kind_of (text_lines bytes)

@@ -16,10 +16,10 @@ problem_of (Some nodes) (Some arcs) = Some (record { nodes = nodes; arcs = arcs 
 problem_of _ _ = None
 
 -- an arc of three numbers, where all are there
-abbrev pub arc_of : Option ℕ → Option ℕ → Option ℕ → Option RawArc
-arc_of (Some tail) (Some head) (Some weight) =
+abbrev pub raw_arc_of : Option ℕ → Option ℕ → Option ℕ → Option RawArc
+raw_arc_of (Some tail) (Some head) (Some weight) =
     Some (record { tail = tail; head = head; weight = weight })
-arc_of _ _ _ = None
+raw_arc_of _ _ _ = None
 
 -- 'sp N M' after the 'p': N nodes and M arcs
 abbrev pub parse_problem : List (List ℕ) → Option Problem
@@ -30,7 +30,7 @@ parse_problem words = option_and_then (λ word.
 -- 'U V W' after the 'a': an arc from U to V with weight W
 abbrev pub parse_arc : List (List ℕ) → Option RawArc
 parse_arc words = option_and_then (λ word.
-    arc_of (number_of word.0) (number_of word.1) (number_of word.2)) (three words)
+    raw_arc_of (number_of word.0) (number_of word.1) (number_of word.2)) (three words)
 
 -- comments begin with a 'c'
 abbrev pub begins_comment : List ℕ → Bool

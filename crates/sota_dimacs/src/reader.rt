@@ -7,7 +7,7 @@ ghost use Rattle.sota_units.specs.Memory.{Answers, IsFault};
 ghost use Rattle.sota_dimacs.specs.Words.{is_shortage};
 ghost use Rattle.sota_dimacs.specs.Lines.{line_problem, line_arc};
 ghost use Rattle.sota_dimacs.specs.Graph.{line_fault, problem_line_fault, arc_line_fault, is_node};
-ghost use Rattle.sota_dimacs.specs.Graph.{graph_of, graph_text, IsGraph, IsTextOf};
+ghost use Rattle.sota_dimacs.specs.Graph.{graph_with, graph_text, IsGraph, IsTextOf};
 ghost use Rattle.sota_dimacs.specs.declared.graph.RawGraph.{RawGraph};
 
 use crate::line::{LineKind, Problem, read_line};
@@ -138,7 +138,7 @@ impl Seen {
 
     /// The graph of the lines, where they are all.
     fn finish(self) -> Result<RawGraph, GraphFault>
-        ensures { result ≡ graph_of self.problem self.arcs.items }
+        ensures { result ≡ graph_with self.problem self.arcs.items }
     {
         let Seen { problem, arcs } = self;
         let Some(problem) = problem else {

@@ -4,18 +4,18 @@ use Rattle.std.specs.List.{sum_by}
 use Rattle.std.proofs.lemmas.Bool.{le-leb}
 use Rattle.std.proofs.lemmas.List.Sums.{sum_by-cons}
 use Rattle.sota_hist.specs.Time.{RisesFrom, IsTime, mass_at}
-use Rattle.sota_hist.specs.Build.{placed, rising}
+use Rattle.sota_hist.specs.Build.{inserted, rising}
 use Rattle.sota_hist.proofs.Ticks.{mass_at-cons}
 use Rattle.sota_hist.proofs.Parting.{Parts, parting, parts}
 
-placed-first : (p : ℕ × ℕ) (ps : List (ℕ × ℕ)) → RisesFrom p.0 ps → placed p ps ≡ p ∷ ps
+placed-first : (p : ℕ × ℕ) (ps : List (ℕ × ℕ)) → RisesFrom p.0 ps → inserted p ps ≡ p ∷ ps
 placed-first p [] rises = refl
 placed-first p (q ∷ qs) rises = rw (le-leb p.0 q.0 (omega (arith, rises.0))) refl
 
 pub rising-done : (floor : ℕ) (ps : List (ℕ × ℕ)) → RisesFrom floor ps → rising ps ≡ ps
 rising-done floor [] rises = refl
 rising-done floor (p ∷ ps) rises =
-    ap (placed p) (rising-done p.0 ps rises.2) ∙ placed-first p ps rises.2
+    ap (inserted p) (rising-done p.0 ps rises.2) ∙ placed-first p ps rises.2
 
 -- the mass at a tick is a sum over the pairs
 mass_at-sum : (t : ℕ) (ps : List (ℕ × ℕ))

@@ -14,8 +14,8 @@ use Rattle.sota_dimacs.specs.declared.graph.RawGraph.{RawGraph}
 use Rattle.sota_histcsv.specs.declared.entry.Entry.{Entry}
 use Rattle.sota_histcsv.specs.declared.fault.HistFileFault.{HistFileFault}
 use Rattle.sota_histcsv.specs.declared.fault.HistFileFault.TheVariants.{Fields, NoArc, ZeroTick}
-use Rattle.sota_histcsv.specs.Records.{without_mark, text_records, Row, numbered_rows, header_scale, entry_by, entry_of, kept, entries_in, is_arc, entry_fault, number_fault, own_fault, repeat_fault, record_fault, first_fault}
-use Rattle.sota_histcsv.specs.Histograms.{Contents, contents, contents_after, pairs_at, time_by, time_fault, arc_of, least_fault, numbered_arcs, timed, hist_net}
+use Rattle.sota_histcsv.specs.Records.{without_mark, text_records, NumberedRecord, numbered_rows, header_scale, entry_by, row_entry, kept, entries_in, is_arc, entry_fault, number_fault, own_fault, repeat_fault, record_fault, first_record_fault}
+use Rattle.sota_histcsv.specs.Histograms.{Contents, contents, contents_after, pairs_at, time_by, time_fault, timed_arc, least_fault, numbered_arcs, timed, hist_net}
 use Rattle.sota_histcsv.specs.Kept.{is_at}
 use Rattle.sota_histcsv.specs.Texts.{Gives, IsTextOf}
 use Rattle.sota_histcsv.proofs.Keeping.{both_none, first_ok, count-cons, are_contents}
@@ -31,7 +31,7 @@ right true false true timeless nowhere e = cc
 right true true tick timeless nowhere e = (refl, refl)
 right false mass tick timeless nowhere e = cc
 
-entry_gives : (arcs : ℕ) (row : Row) (entry : Entry) → entry_of row ≡ Some entry
+entry_gives : (arcs : ℕ) (row : NumberedRecord) (entry : Entry) → row_entry row ≡ Some entry
     → entry_fault arcs entry ≡ None → Gives arcs row
 entry_gives arcs row entry is none =
     let parts = right (is_arc arcs entry.arc) (entry.mass == 0) (entry.tick == 0) (ZeroTick entry.number) (NoArc entry.number) none in
@@ -44,12 +44,12 @@ entry_gives arcs row entry is none =
       tick = λ some. grind arith;
     }
 
-own_gives : (arcs : ℕ) (row : Row) → own_fault arcs row ≡ None → Gives arcs row
+own_gives : (arcs : ℕ) (row : NumberedRecord) → own_fault arcs row ≡ None → Gives arcs row
 own_gives arcs row none =
-    elim (length row.1 == 3) as (λ b. cond b (number_fault arcs row.0 (entry_of row)) (Some (Fields row.0)) ≡ None → Gives arcs row) [
+    elim (length row.1 == 3) as (λ b. cond b (number_fault arcs row.0 (row_entry row)) (Some (Fields row.0)) ≡ None → Gives arcs row) [
       | false ↦ λ none. cc
       | true ↦ λ none.
-          elim (entry_of row) as (λ o. entry_of row ≡ o → number_fault arcs row.0 o ≡ None → Gives arcs row) [
+          elim (row_entry row) as (λ o. row_entry row ≡ o → number_fault arcs row.0 o ≡ None → Gives arcs row) [
             | None ↦ λ is none. cc
             | Some entry ↦ λ is none. entry_gives arcs row entry is none
           ] refl none
@@ -75,7 +75,7 @@ tick_right mass tick some =
     rw (ne_eqb mass 0 apart, ne_eqb tick 0 (λ e. omega arith)) refl)
     (cases_eq mass 0)
 
-gives_own : (arcs : ℕ) (row : Row) → Gives arcs row → own_fault arcs row ≡ None
+gives_own : (arcs : ℕ) (row : NumberedRecord) → Gives arcs row → own_fault arcs row ≡ None
 gives_own arcs row gives =
     rw (
       eq-eqb (length row.1) 3 (three_long row.0 row.1 gives.entry gives.numbers),
@@ -86,11 +86,11 @@ gives_own arcs row gives =
 
 -- ---- records without a fault
 
-all_give : (arcs : ℕ) (before rows : List Row) → first_fault arcs before rows ≡ None → All (Gives arcs) rows
+all_give : (arcs : ℕ) (before rows : List NumberedRecord) → first_record_fault arcs before rows ≡ None → All (Gives arcs) rows
 all_give arcs before [] none = All-nil (Gives arcs)
 all_give arcs before (row ∷ rows) none =
-    let parts = both_none (record_fault arcs (entries_in before) row) (first_fault arcs (before ++ row ∷ []) rows) none in
-    let own = both_none (own_fault arcs row) (repeat_fault (entries_in before) (kept (entry_of row))) parts.0 in
+    let parts = both_none (record_fault arcs (entries_in before) row) (first_record_fault arcs (before ++ row ∷ []) rows) none in
+    let own = both_none (own_fault arcs row) (repeat_fault (entries_in before) (kept (row_entry row))) parts.0 in
     All-cons (Gives arcs) row rows (own_gives arcs row own.0) (all_give arcs (before ++ row ∷ []) rows parts.1)
 
 any_from_count : (arc tick : ℕ) (entries : List Entry) → count_by (is_at arc tick) entries ≡ 0
@@ -121,15 +121,15 @@ fresh before rest (Some entry) once =
     omega (arith, once entry.arc entry.tick, count_both entry.arc entry.tick before (entry ∷ rest), one) in
     rw (any_from_count entry.arc entry.tick before none) refl
 
-none_first : (arcs : ℕ) (before rows : List Row) → All (Gives arcs) rows
+none_first : (arcs : ℕ) (before rows : List NumberedRecord) → All (Gives arcs) rows
     → ((arc tick : ℕ) → count_by (is_at arc tick) (entries_in (before ++ rows)) ≤ 1)
-    → first_fault arcs before rows ≡ None
+    → first_record_fault arcs before rows ≡ None
 none_first arcs before [] each once = refl
 none_first arcs before (row ∷ rows) each once =
     let own = gives_own arcs row (All-head (Gives arcs) row rows each) in
-    let split : entries_in (before ++ row ∷ rows) ≡ entries_in before ++ cons_option (kept (entry_of row)) (entries_in rows) =
-    filter_map-append (λ (row : Row). kept (entry_of row)) before (row ∷ rows) in
-    let repeat = fresh (entries_in before) (entries_in rows) (kept (entry_of row))
+    let split : entries_in (before ++ row ∷ rows) ≡ entries_in before ++ cons_option (kept (row_entry row)) (entries_in rows) =
+    filter_map-append (λ (row : NumberedRecord). kept (row_entry row)) before (row ∷ rows) in
+    let repeat = fresh (entries_in before) (entries_in rows) (kept (row_entry row))
     (λ arc tick. subst (λ entries. count_by (is_at arc tick) entries ≤ 1) split (once arc tick)) in
     let rest = none_first arcs (before ++ row ∷ []) rows (All-tail (Gives arcs) row rows each)
     (λ arc tick. subst (λ rows. count_by (is_at arc tick) (entries_in rows) ≤ 1) (sym (append_assoc before (row ∷ []) rows)) (once arc tick)) in
@@ -146,13 +146,13 @@ fits sums scale number weight (p ∷ ps) time few =
     rw (le-leb (total (p ∷ ps)) scale (omega (arith, sums (λ (q : ℕ × ℕ). q.1) (p ∷ ps), few))) refl
 
 none_least : RisingSums → (net : Net) (known : Contents) (number : ℕ) (raw : List RawArc) → known.scale ≡ net.scale
-    → All (IsArc net) (map (arc_of known) (enumerate_from number raw))
+    → All (IsArc net) (map (timed_arc known) (enumerate_from number raw))
     → least_fault known (enumerate_from number raw) ≡ None
 none_least sums net known number [] same arcs = refl
 none_least sums net known number (arc ∷ raw) same arcs =
-    let more = map (arc_of known) (enumerate_from (number + 1) raw) in
-    let here = All-head (IsArc net) (arc_of known (number, arc)) more arcs in
-    let rest = none_least sums net known (number + 1) raw same (All-tail (IsArc net) (arc_of known (number, arc)) more arcs) in
+    let more = map (timed_arc known) (enumerate_from (number + 1) raw) in
+    let here = All-head (IsArc net) (timed_arc known (number, arc)) more arcs in
+    let rest = none_least sums net known (number + 1) raw same (All-tail (IsArc net) (timed_arc known (number, arc)) more arcs) in
     let one = fits sums known.scale number arc.weight (pairs_at known.entries number) here.time (omega (arith, here.total, same)) in
     rw (one, rest) refl
 
@@ -164,14 +164,14 @@ record Split (arcs : ℕ) (all : List (List (List ℕ))) (known : Contents) : Ty
   pub records : all ≡ header ∷ rows
   pub scale : header_scale header ≡ Some known.scale
   pub entries : entries_in (numbered_rows rows) ≡ known.entries
-  pub none : first_fault arcs [] (numbered_rows rows) ≡ None
+  pub none : first_record_fault arcs [] (numbered_rows rows) ≡ None
 
 split_at : (arcs : ℕ) (header : List (List ℕ)) (rows : List (List (List ℕ))) (scale : Option ℕ) (known : Contents)
     → header_scale header ≡ scale → contents_after arcs scale (numbered_rows rows) ≡ Ok known
     → Split arcs (header ∷ rows) known
 split_at arcs header rows None known is e = cc
 split_at arcs header rows (Some scale) known is e =
-    let ok = first_ok (first_fault arcs [] (numbered_rows rows)) (record { scale = scale; entries = entries_in (numbered_rows rows) }) known e in
+    let ok = first_ok (first_record_fault arcs [] (numbered_rows rows)) (record { scale = scale; entries = entries_in (numbered_rows rows) }) known e in
     record {
       header = header;
       rows = rows;
@@ -195,7 +195,7 @@ text_of valid sums bytes graph net is e =
     let scale : known.scale ≡ net.scale = ap (λ (net : Net). net.scale) parts.net_is in
     let same : record { scale = known.scale; entries = known.entries } ≡ record { scale = net.scale; entries = entries_in (numbered_rows text.rows) } =
     rw (scale, text.entries) refl in
-    let arcs = first_ok (least_fault known (numbered_arcs graph.arcs)) (map (arc_of known) (numbered_arcs graph.arcs)) parts.arcs parts.times in
+    let arcs = first_ok (least_fault known (numbered_arcs graph.arcs)) (map (timed_arc known) (numbered_arcs graph.arcs)) parts.arcs parts.times in
     record {
       plain = parts.plain;
       header = text.header;
@@ -205,7 +205,7 @@ text_of valid sums bytes graph net is e =
       each = all_give (length graph.arcs) [] (numbered_rows text.rows) text.none;
       once = λ arc tick. subst (λ entries. count_by (is_at arc tick) entries ≤ 1) (sym text.entries) (are.kept.once arc tick);
       nodes = ap (λ (net : Net). net.nodes) (sym parts.net_is);
-      arcs = ap (λ (net : Net). net.arcs) (sym parts.net_is) ∙ sym arcs.1 ∙ ap (λ (known : Contents). map (arc_of known) (numbered_arcs graph.arcs)) same;
+      arcs = ap (λ (net : Net). net.arcs) (sym parts.net_is) ∙ sym arcs.1 ∙ ap (λ (known : Contents). map (timed_arc known) (numbered_arcs graph.arcs)) same;
       valid = text_is valid sums bytes graph net is e;
     }
 
@@ -223,6 +223,6 @@ text_accepted sums bytes graph net text =
     ap (contents (length graph.arcs)) text.records ∙ (rw (text.scale, none) refl) in
     let least = none_least sums net known 1 graph.arcs refl
     (subst (λ arcs. All (IsArc net) arcs) text.arcs text.valid.arcs) in
-    let times : timed known graph.arcs ≡ Ok (map (arc_of known) (numbered_arcs graph.arcs)) = rw least refl in
-    net_read bytes (without_mark bytes) graph known (map (arc_of known) (numbered_arcs graph.arcs)) refl text.plain is times
-    ∙ ap (λ (net : Net). Ok net) (whole_net net graph.nodes (map (arc_of known) (numbered_arcs graph.arcs)) text.nodes text.arcs)
+    let times : timed known graph.arcs ≡ Ok (map (timed_arc known) (numbered_arcs graph.arcs)) = rw least refl in
+    net_read bytes (without_mark bytes) graph known (map (timed_arc known) (numbered_arcs graph.arcs)) refl text.plain is times
+    ∙ ap (λ (net : Net). Ok net) (whole_net net graph.nodes (map (timed_arc known) (numbered_arcs graph.arcs)) text.nodes text.arcs)

@@ -7,38 +7,38 @@ use Rattle.csv.specs.declared.reader.Reader.{Reader}
 use Rattle.sota_histcsv.specs.declared.entry.Entry.{Entry}
 use Rattle.sota_histcsv.specs.declared.fault.HistFileFault.{HistFileFault}
 use Rattle.sota_histcsv.specs.declared.fault.HistFileFault.TheVariants.{Header}
-use Rattle.sota_histcsv.specs.Records.{Row, numbered_rows, header_scale, entry_of, kept, entries_in, own_fault, repeat_fault, record_fault, first_fault}
+use Rattle.sota_histcsv.specs.Records.{NumberedRecord, numbered_rows, header_scale, row_entry, kept, entries_in, own_fault, repeat_fault, record_fault, first_record_fault}
 use Rattle.sota_histcsv.specs.Repeats.{first_repeat}
 use Rattle.sota_histcsv.specs.Histograms.{Contents, fault_first, contents_after, contents}
 use Rattle.sota_units.specs.declared.no_memory.NoMemory.{NoMemory}
 use Rattle.sota_histcsv.specs.Left.{Leaves, TakesRecord}
 
-abbrev pub rest_of : ℕ → ℕ → List Entry → List Row → Result Contents HistFileFault
+abbrev pub rest_of : ℕ → ℕ → List Entry → List NumberedRecord → Result Contents HistFileFault
 rest_of arcs scale entries [] = Ok (record { scale = scale; entries = entries })
-rest_of arcs scale entries (row ∷ rows) = fault_first (record_fault arcs entries row) (rest_of arcs scale (entries ++ option_to_list (kept (entry_of row))) rows)
+rest_of arcs scale entries (row ∷ rows) = fault_first (record_fault arcs entries row) (rest_of arcs scale (entries ++ option_to_list (kept (row_entry row))) rows)
 
 one_entry : (o : Option Entry) → cons_option o [] ≡ option_to_list o
 one_entry (Some entry) = refl
 one_entry None = refl
 
-pub entries_push : (before : List Row) (row : Row) → entries_in (before ++ row ∷ []) ≡ entries_in before ++ option_to_list (kept (entry_of row))
-entries_push before row = filter_map-append (λ (row : Row). kept (entry_of row)) before (row ∷ []) ∙ ap (λ entries. entries_in before ++ entries) (one_entry (kept (entry_of row)))
+pub entries_push : (before : List NumberedRecord) (row : NumberedRecord) → entries_in (before ++ row ∷ []) ≡ entries_in before ++ option_to_list (kept (row_entry row))
+entries_push before row = filter_map-append (λ (row : NumberedRecord). kept (row_entry row)) before (row ∷ []) ∙ ap (λ entries. entries_in before ++ entries) (one_entry (kept (row_entry row)))
 
 fault_before : (fault other : Option HistFileFault) (a b : Result Contents HistFileFault) → fault_first other a ≡ b → fault_first (option_or fault other) a ≡ fault_first fault b
 fault_before (Some fault) other a b h = refl
 fault_before None other a b h = h
 
-abbrev pub contents_from : ℕ → ℕ → List Row → List Row → List Row → Result Contents HistFileFault
-contents_from arcs scale before rows all = fault_first (first_fault arcs before rows) (Ok (record { scale = scale; entries = entries_in all }))
+abbrev pub contents_from : ℕ → ℕ → List NumberedRecord → List NumberedRecord → List NumberedRecord → Result Contents HistFileFault
+contents_from arcs scale before rows all = fault_first (first_record_fault arcs before rows) (Ok (record { scale = scale; entries = entries_in all }))
 
-rest_is : (arcs scale : ℕ) (before rows : List Row) → contents_from arcs scale before rows (before ++ rows) ≡ rest_of arcs scale (entries_in before) rows
+rest_is : (arcs scale : ℕ) (before rows : List NumberedRecord) → contents_from arcs scale before rows (before ++ rows) ≡ rest_of arcs scale (entries_in before) rows
 rest_is arcs scale before [] = ap (λ all. Ok (record { scale = scale; entries = entries_in all })) (append-nil before)
 rest_is arcs scale before (row ∷ rows) =
-    let rest : contents_from arcs scale (before ++ row ∷ []) rows (before ++ row ∷ rows) ≡ rest_of arcs scale (entries_in before ++ option_to_list (kept (entry_of row))) rows =
+    let rest : contents_from arcs scale (before ++ row ∷ []) rows (before ++ row ∷ rows) ≡ rest_of arcs scale (entries_in before ++ option_to_list (kept (row_entry row))) rows =
     ap (contents_from arcs scale (before ++ row ∷ []) rows) (sym (append_assoc before (row ∷ []) rows))
     ∙ rest_is arcs scale (before ++ row ∷ []) rows
     ∙ ap (λ entries. rest_of arcs scale entries rows) (entries_push before row) in
-    fault_before (record_fault arcs (entries_in before) row) (first_fault arcs (before ++ row ∷ []) rows) _ _ rest
+    fault_before (record_fault arcs (entries_in before) row) (first_record_fault arcs (before ++ row ∷ []) rows) _ _ rest
 
 -- ---- repeats are found among the entries that were kept
 
@@ -100,7 +100,7 @@ ended arcs scale number all reader entries goes none =
 -- what one record more makes of it
 pub record GoesOn (arcs scale number : ℕ) (all : List (List (List ℕ))) (after : Reader (Bor (List ℕ))) (entries : List Entry) (fields : List (List ℕ)) : Type 0 where
   pub fault : (why : HistFileFault) → own_fault arcs (number, fields) ≡ Some why → fault_first (first_repeat [] entries) (Err why) ≡ contents arcs all
-  pub more : (o : Option Entry) → own_fault arcs (number, fields) ≡ None → o ≡ kept (entry_of (number, fields)) → Goes arcs scale all after (entries ++ option_to_list o) (number + 1)
+  pub more : (o : Option Entry) → own_fault arcs (number, fields) ≡ None → o ≡ kept (row_entry (number, fields)) → Goes arcs scale all after (entries ++ option_to_list o) (number + 1)
 
 on_left : (arcs scale number : ℕ) (all left : List (List (List ℕ))) (after : Reader (Bor (List ℕ))) (entries : List Entry) (fields : List (List ℕ)) → TakesRecord {E = NoMemory} (Ok true) left after fields
     → fault_first (first_repeat [] entries) (rest_of arcs scale entries (enumerate_from number left)) ≡ contents arcs all → length left + number ≤ length all → GoesOn arcs scale number all after entries fields
@@ -108,13 +108,13 @@ on_left arcs scale number all [] after entries fields takes rest few = absurd ta
 on_left arcs scale number all (first ∷ left) after entries fields takes rest few =
     let next = λ (o : Option Entry). rest_of arcs scale (entries ++ option_to_list o) (enumerate_from (number + 1) left) in
     let answer = λ (own : Option HistFileFault) (o : Option Entry). fault_first (first_repeat [] entries) (fault_first (option_or own (repeat_fault entries o)) (next o)) in
-    let here : answer (own_fault arcs (number, fields)) (kept (entry_of (number, fields))) ≡ contents arcs all = rw (takes.0) rest in
+    let here : answer (own_fault arcs (number, fields)) (kept (row_entry (number, fields))) ≡ contents arcs all = rw (takes.0) rest in
     record {
-      fault = λ why e. ap (λ own. answer own (kept (entry_of (number, fields)))) (sym e) ∙ here;
+      fault = λ why e. ap (λ own. answer own (kept (row_entry (number, fields)))) (sym e) ∙ here;
       more = λ o none is. record {
         left = left;
         leaves = takes.1;
-        rest = sym (repeat_more entries o (next o)) ∙ ap (answer None) is ∙ ap (λ own. answer own (kept (entry_of (number, fields)))) (sym none) ∙ here;
+        rest = sym (repeat_more entries o (next o)) ∙ ap (answer None) is ∙ ap (λ own. answer own (kept (row_entry (number, fields)))) (sym none) ∙ here;
         few = omega arith;
       };
     }

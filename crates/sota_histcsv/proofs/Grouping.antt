@@ -12,8 +12,8 @@ use Rattle.sota_network.specs.declared.network.Arc.{Arc}
 use Rattle.sota_dimacs.specs.declared.graph.RawArc.{RawArc}
 use Rattle.sota_histcsv.specs.declared.entry.Entry.{Entry}
 use Rattle.sota_histcsv.specs.declared.fault.HistFileFault.{HistFileFault}
-use Rattle.sota_histcsv.specs.Histograms.{Contents, fault_first, pairs_of, time_by, time_fault, arc_of, arc_fault, least_fault, timed}
-use Rattle.sota_histcsv.specs.Kept.{IsKept, PlacesRise}
+use Rattle.sota_histcsv.specs.Histograms.{Contents, fault_first, tick_pairs, time_by, time_fault, timed_arc, histogram_fault, least_fault, timed}
+use Rattle.sota_histcsv.specs.Kept.{HasNoZero, PlacesRise}
 use Rattle.sota_histcsv.proofs.Places.{arcs_rise, arc_is_time}
 
 abbrev pub of_arc : ℕ → Entry → Bool
@@ -77,7 +77,7 @@ pub record IsRest (entries rest : List Entry) (number : ℕ) : Type 0 where
   pub from : AreFrom number rest
   pub same : (arc : ℕ) → number ≤ arc → filter (of_arc arc) rest ≡ filter (of_arc arc) entries
 
-pub first_rest : (entries : List Entry) → All IsKept entries → PlacesRise entries
+pub first_rest : (entries : List Entry) → All HasNoZero entries → PlacesRise entries
     → IsRest entries entries 1
 first_rest entries kept rise = record {
   rises = arcs_rise entries rise;
@@ -104,16 +104,16 @@ mine_is entries rest mine number n is at e =
 
 -- ---- the pairs of one arc
 
-pub mine_rises : (entries mine : List Entry) (number : ℕ) (pairs : List (ℕ × ℕ)) → All IsKept entries
-    → PlacesRise entries → mine ≡ filter (of_arc number) entries → pairs ≡ pairs_of mine → IsTime pairs
+pub mine_rises : (entries mine : List Entry) (number : ℕ) (pairs : List (ℕ × ℕ)) → All HasNoZero entries
+    → PlacesRise entries → mine ≡ filter (of_arc number) entries → pairs ≡ tick_pairs mine → IsTime pairs
 mine_rises entries mine number pairs kept rise is at =
-    subst IsTime (sym (at ∙ ap pairs_of is)) (arc_is_time number entries rise kept)
+    subst IsTime (sym (at ∙ ap tick_pairs is)) (arc_is_time number entries rise kept)
 
 pub mine_few : (entries mine : List Entry) (number : ℕ) (pairs : List (ℕ × ℕ))
-    → mine ≡ filter (of_arc number) entries → pairs ≡ pairs_of mine → length pairs ≤ length entries
+    → mine ≡ filter (of_arc number) entries → pairs ≡ tick_pairs mine → length pairs ≤ length entries
 mine_few entries mine number pairs is at =
     let long : length pairs ≡ length (filter (of_arc number) entries) =
-    ap length (at ∙ ap pairs_of is)
+    ap length (at ∙ ap tick_pairs is)
     ∙ length-map (filter (of_arc number) entries) (λ (entry : Entry). (entry.tick, entry.mass)) in
     omega (arith, long, length-filter (of_arc number) entries, count_by-le-length (of_arc number) entries)
 
@@ -122,17 +122,17 @@ mine_few entries mine number pairs is at =
 abbrev pub timed_rest : Contents → List Arc → ℕ → List RawArc → Result (List Arc) HistFileFault
 timed_rest known arcs number raw =
     fault_first (least_fault known (enumerate_from number raw))
-    (Ok (arcs ++ map (arc_of known) (enumerate_from number raw)))
+    (Ok (arcs ++ map (timed_arc known) (enumerate_from number raw)))
 
 rest_more : (known : Contents) (arcs : List Arc) (number : ℕ) (arc : RawArc) (raw : List RawArc)
-    → arc_fault known (number, arc) ≡ None
+    → histogram_fault known (number, arc) ≡ None
     → timed_rest known arcs number (arc ∷ raw)
-    ≡ timed_rest known (arcs ++ arc_of known (number, arc) ∷ []) (number + 1) raw
+    ≡ timed_rest known (arcs ++ timed_arc known (number, arc) ∷ []) (number + 1) raw
 rest_more known arcs number arc raw none =
-    rw (none, append_assoc arcs (arc_of known (number, arc) ∷ []) (map (arc_of known) (enumerate_from (number + 1) raw))) refl
+    rw (none, append_assoc arcs (timed_arc known (number, arc) ∷ []) (map (timed_arc known) (enumerate_from (number + 1) raw))) refl
 
 rest_fault : (known : Contents) (arcs : List Arc) (number : ℕ) (arc : RawArc) (raw : List RawArc) (why : HistFileFault)
-    → arc_fault known (number, arc) ≡ Some why → timed_rest known arcs number (arc ∷ raw) ≡ Err why
+    → histogram_fault known (number, arc) ≡ Some why → timed_rest known arcs number (arc ∷ raw) ≡ Err why
 rest_fault known arcs number arc raw why some = rw some refl
 
 -- ---- one arc of the graph after the other
@@ -145,11 +145,11 @@ next_arc raw index arc under at =
 pub arc_refused : (known : Contents) (mine : List Entry) (pairs : List (ℕ × ℕ)) (arcs : List Arc)
     (all raw : List RawArc) (index : ℕ) (arc : RawArc) (why : HistFileFault) → index < length raw
     → arc ≡ get_or raw index arc → mine ≡ filter (of_arc (index + 1)) known.entries
-    → pairs ≡ pairs_of mine
+    → pairs ≡ tick_pairs mine
     → timed_rest known arcs (index + 1) (drop index raw) ≡ timed known all
     → time_fault known.scale (index + 1) arc.weight pairs ≡ Some why → timed known all ≡ Err why
 arc_refused known mine pairs arcs all raw index arc why under at is pairs_are so e =
-    let here : arc_fault known (index + 1, arc) ≡ Some why = rw (pairs_are, is) at e in
+    let here : histogram_fault known (index + 1, arc) ≡ Some why = rw (pairs_are, is) at e in
     sym so
     ∙ ap (timed_rest known arcs (index + 1)) (next_arc raw index arc under at)
     ∙ rest_fault known arcs (index + 1) arc (drop (index + 1) raw) why here
@@ -157,16 +157,16 @@ arc_refused known mine pairs arcs all raw index arc why under at is pairs_are so
 pub arc_timed : (known : Contents) (mine : List Entry) (pairs : List (ℕ × ℕ)) (arcs : List Arc)
     (all raw : List RawArc) (index : ℕ) (arc : RawArc) (time : List (ℕ × ℕ)) → index < length raw
     → arc ≡ get_or raw index arc → mine ≡ filter (of_arc (index + 1)) known.entries
-    → pairs ≡ pairs_of mine
+    → pairs ≡ tick_pairs mine
     → timed_rest known arcs (index + 1) (drop index raw) ≡ timed known all
     → time_fault known.scale (index + 1) arc.weight pairs ≡ None
     → time_by known.scale arc.weight pairs ≡ time
     → timed_rest known (arcs ++ record { tail = arc.tail; head = arc.head; time = time } ∷ []) (index + 1 + 1) (drop (index + 1) raw)
     ≡ timed known all
 arc_timed known mine pairs arcs all raw index arc time under at is pairs_are so e t =
-    let here : arc_fault known (index + 1, arc) ≡ None = rw (pairs_are, is) at e in
-    let time_is : time_by known.scale arc.weight (pairs_of (filter (of_arc (index + 1)) known.entries)) ≡ time = rw (pairs_are, is) at t in
-    let one : record { tail = arc.tail; head = arc.head; time = time } ≡ arc_of known (index + 1, arc) =
+    let here : histogram_fault known (index + 1, arc) ≡ None = rw (pairs_are, is) at e in
+    let time_is : time_by known.scale arc.weight (tick_pairs (filter (of_arc (index + 1)) known.entries)) ≡ time = rw (pairs_are, is) at t in
+    let one : record { tail = arc.tail; head = arc.head; time = time } ≡ timed_arc known (index + 1, arc) =
     ap (λ (time : List (ℕ × ℕ)). record { tail = arc.tail; head = arc.head; time = time }) (sym time_is) in
     ap (λ (one : Arc). timed_rest known (arcs ++ one ∷ []) (index + 1 + 1) (drop (index + 1) raw)) one
     ∙ sym (rest_more known arcs (index + 1) arc (drop (index + 1) raw) here)

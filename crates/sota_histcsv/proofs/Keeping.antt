@@ -13,9 +13,9 @@ use Rattle.std.proofs.lemmas.List.Sums.{sum_by-cons}
 use Rattle.sota_histcsv.specs.declared.entry.Entry.{Entry}
 use Rattle.sota_histcsv.specs.declared.fault.HistFileFault.{HistFileFault}
 use Rattle.sota_histcsv.specs.declared.fault.HistFileFault.TheVariants.{Fields, NoArc, ZeroTick, RepeatedTick}
-use Rattle.sota_histcsv.specs.Records.{Row, numbered_rows, is_scale, scale_in, header_scale, entry_of, kept, entries_in, is_arc, entry_fault, number_fault, own_fault, same_place, repeat_fault, record_fault, first_fault}
+use Rattle.sota_histcsv.specs.Records.{NumberedRecord, numbered_rows, is_scale, scale_in, header_scale, row_entry, kept, entries_in, is_arc, entry_fault, number_fault, own_fault, same_place, repeat_fault, record_fault, first_record_fault}
 use Rattle.sota_histcsv.specs.Histograms.{Contents, fault_first, contents_after, contents}
-use Rattle.sota_histcsv.specs.Kept.{IsKept, is_at, AreKept, NumbersRise}
+use Rattle.sota_histcsv.specs.Kept.{HasNoZero, is_at, AreEntries, NumbersRise}
 use Rattle.sota_histcsv.proofs.Contents.{entries_push}
 
 pub count-cons : (arc tick : ℕ) (entry : Entry) (entries : List Entry) → count_by (is_at arc tick) (entry ∷ entries) ≡ cond (is_at arc tick entry) 1 0 + count_by (is_at arc tick) entries
@@ -38,9 +38,9 @@ count_push arc tick (first ∷ entries) entry =
 same_at : (arc tick : ℕ) (entry : Entry) → is_at arc tick entry ≡ true → (arc ≡ entry.arc) × (tick ≡ entry.tick)
 same_at arc tick entry e = (grind arith, grind arith)
 
-pub kept_push : (entries : List Entry) (entry : Entry) → AreKept entries → IsKept entry → list_any (is_at entry.arc entry.tick) entries ≡ false → AreKept (entries ++ entry ∷ [])
+pub kept_push : (entries : List Entry) (entry : Entry) → AreEntries entries → HasNoZero entry → list_any (is_at entry.arc entry.tick) entries ≡ false → AreEntries (entries ++ entry ∷ [])
 kept_push entries entry kept good new = record {
-  each = All-push IsKept entries entry kept.each good;
+  each = All-push HasNoZero entries entry kept.each good;
   once = λ arc tick.
       elim (is_at arc tick entry) as (λ b. is_at arc tick entry ≡ b → count_by (is_at arc tick) (entries ++ entry ∷ []) ≤ 1) [
         | true ↦ λ here.
@@ -75,11 +75,11 @@ above : (n : ℕ) → (n == 0) ≡ false → 1 ≤ n
 above n apart = let no : n ≡ 0 → ⊥ = eqb-false n 0 apart in omega arith
 
 entry_kept : (arcs : ℕ) (entry e : Entry) → entry_fault arcs entry ≡ None
-    → kept (Some entry) ≡ Some e → IsKept e
+    → kept (Some entry) ≡ Some e → HasNoZero e
 entry_kept arcs entry e none is =
     let parts = checked (is_arc arcs entry.arc) (entry.mass == 0) (entry.tick == 0) entry e
     (ZeroTick entry.number) (NoArc entry.number) none is in
-    subst IsKept parts.3
+    subst HasNoZero parts.3
     (record {
       arc = (let h : is_arc arcs entry.arc ≡ true = parts.0 in grind arith);
       tick = above entry.tick parts.2;
@@ -87,41 +87,41 @@ entry_kept arcs entry e none is =
     })
 
 number_kept : (arcs number : ℕ) (o : Option Entry) (e : Entry) → number_fault arcs number o ≡ None
-    → kept o ≡ Some e → IsKept e
+    → kept o ≡ Some e → HasNoZero e
 number_kept arcs number None e none is = cc
 number_kept arcs number (Some entry) e none is = entry_kept arcs entry e none is
 
-own_kept : (arcs : ℕ) (row : Row) (e : Entry) → own_fault arcs row ≡ None
-    → kept (entry_of row) ≡ Some e → IsKept e
+own_kept : (arcs : ℕ) (row : NumberedRecord) (e : Entry) → own_fault arcs row ≡ None
+    → kept (row_entry row) ≡ Some e → HasNoZero e
 own_kept arcs row e none is =
-    elim (length row.1 == 3) as (λ b. cond b (number_fault arcs row.0 (entry_of row)) (Some (Fields row.0)) ≡ None → IsKept e) [
-      | true ↦ λ none. number_kept arcs row.0 (entry_of row) e none is
+    elim (length row.1 == 3) as (λ b. cond b (number_fault arcs row.0 (row_entry row)) (Some (Fields row.0)) ≡ None → HasNoZero e) [
+      | true ↦ λ none. number_kept arcs row.0 (row_entry row) e none is
       | false ↦ λ none. cc
     ] none
 
-kept_one : (entries : List Entry) (o : Option Entry) → AreKept entries
-    → ((e : Entry) → o ≡ Some e → IsKept e) → repeat_fault entries o ≡ None
-    → AreKept (entries ++ option_to_list o)
-kept_one entries None are each none = subst AreKept (sym (append-nil entries)) are
+kept_one : (entries : List Entry) (o : Option Entry) → AreEntries entries
+    → ((e : Entry) → o ≡ Some e → HasNoZero e) → repeat_fault entries o ≡ None
+    → AreEntries (entries ++ option_to_list o)
+kept_one entries None are each none = subst AreEntries (sym (append-nil entries)) are
 kept_one entries (Some entry) are each none =
     kept_push entries entry are (each entry refl)
     (not_any (list_any (same_place entry) entries) (RepeatedTick entry.number) none)
 
-kept_rows : (arcs : ℕ) (before rows : List Row) → AreKept (entries_in before)
-    → first_fault arcs before rows ≡ None → AreKept (entries_in (before ++ rows))
+kept_rows : (arcs : ℕ) (before rows : List NumberedRecord) → AreEntries (entries_in before)
+    → first_record_fault arcs before rows ≡ None → AreEntries (entries_in (before ++ rows))
 kept_rows arcs before [] are none =
-    subst (λ rows. AreKept (entries_in rows)) (sym (append-nil before)) are
+    subst (λ rows. AreEntries (entries_in rows)) (sym (append-nil before)) are
 kept_rows arcs before (row ∷ rows) are none =
-    let parts = both_none (record_fault arcs (entries_in before) row) (first_fault arcs (before ++ row ∷ []) rows) none in
-    let own = both_none (own_fault arcs row) (repeat_fault (entries_in before) (kept (entry_of row))) parts.0 in
-    let next : AreKept (entries_in (before ++ row ∷ [])) =
-    subst AreKept (sym (entries_push before row))
-    (kept_one (entries_in before) (kept (entry_of row)) are (λ e is. own_kept arcs row e own.0 is) own.1) in
-    subst (λ rows. AreKept (entries_in rows)) (append_assoc before (row ∷ []) rows)
+    let parts = both_none (record_fault arcs (entries_in before) row) (first_record_fault arcs (before ++ row ∷ []) rows) none in
+    let own = both_none (own_fault arcs row) (repeat_fault (entries_in before) (kept (row_entry row))) parts.0 in
+    let next : AreEntries (entries_in (before ++ row ∷ [])) =
+    subst AreEntries (sym (entries_push before row))
+    (kept_one (entries_in before) (kept (row_entry row)) are (λ e is. own_kept arcs row e own.0 is) own.1) in
+    subst (λ rows. AreEntries (entries_in rows)) (append_assoc before (row ∷ []) rows)
     (kept_rows arcs (before ++ row ∷ []) rows next parts.1)
 
-pub none_kept : AreKept []
-none_kept = record { each = All-nil IsKept; once = λ arc tick. omega arith }
+pub none_kept : AreEntries []
+none_kept = record { each = All-nil HasNoZero; once = λ arc tick. omega arith }
 
 pub first_ok : {T : Type 0} (fault : Option HistFileFault) (a b : T)
     → fault_first fault (Ok a) ≡ Ok b → (fault ≡ None) × (a ≡ b)
@@ -176,14 +176,14 @@ header_is fields scale is =
 
 pub record AreContents (known : Contents) : Type 0 where
   pub scale : 1 ≤ known.scale
-  pub kept : AreKept known.entries
+  pub kept : AreEntries known.entries
 
-contents_kept : (arcs : ℕ) (scale : Option ℕ) (rows : List Row) (known : Contents)
+contents_kept : (arcs : ℕ) (scale : Option ℕ) (rows : List NumberedRecord) (known : Contents)
     → ((n : ℕ) → scale ≡ Some n → is_scale n ≡ true)
     → contents_after arcs scale rows ≡ Ok known → AreContents known
 contents_kept arcs None rows known header is = cc
 contents_kept arcs (Some scale) rows known header is =
-    let ok = first_ok (first_fault arcs [] rows) (record { scale = scale; entries = entries_in rows }) known is in
+    let ok = first_ok (first_record_fault arcs [] rows) (record { scale = scale; entries = entries_in rows }) known is in
     subst AreContents ok.1
     (record {
       scale = (let h : is_scale scale ≡ true = header scale refl in grind arith);

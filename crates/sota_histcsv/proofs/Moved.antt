@@ -13,8 +13,8 @@ use Rattle.sota_dimacs.specs.declared.graph.RawArc.{RawArc}
 use Rattle.sota_histcsv.specs.declared.entry.Entry.{Entry}
 use Rattle.sota_histcsv.specs.declared.table.Table.{Table}
 use Rattle.sota_histcsv.specs.declared.fault.HistFileFault.TheVariants.{Sum}
-use Rattle.sota_histcsv.specs.Histograms.{Contents, fault_first, pairs_of, pairs_at, time_by, time_fault, arc_of, arc_fault, least_fault, numbered_arcs, timed}
-use Rattle.sota_histcsv.specs.Kept.{IsKept, is_at, AreKept, Holds, contents_in}
+use Rattle.sota_histcsv.specs.Histograms.{Contents, fault_first, tick_pairs, pairs_at, time_by, time_fault, timed_arc, histogram_fault, least_fault, numbered_arcs, timed}
+use Rattle.sota_histcsv.specs.Kept.{HasNoZero, is_at, AreEntries, HoldsContents, contents_in}
 
 -- ---- sums over the pairs of an arc are sums over entries
 
@@ -22,9 +22,9 @@ abbrev part : (ℕ × ℕ → ℕ) → ℕ → Entry → ℕ
 part weight arc entry = cond (entry.arc == arc) (weight (entry.tick, entry.mass)) 0
 
 arc_sum_step : (weight : ℕ × ℕ → ℕ) (here : Bool) (entry : Entry) (rest : List Entry)
-    → sum_by weight (pairs_of (cond here (entry ∷ rest) rest))
-    ≡ cond here (weight (entry.tick, entry.mass)) 0 + sum_by weight (pairs_of rest)
-arc_sum_step weight true entry rest = sum_by-cons weight (entry.tick, entry.mass) (pairs_of rest)
+    → sum_by weight (tick_pairs (cond here (entry ∷ rest) rest))
+    ≡ cond here (weight (entry.tick, entry.mass)) 0 + sum_by weight (tick_pairs rest)
+arc_sum_step weight true entry rest = sum_by-cons weight (entry.tick, entry.mass) (tick_pairs rest)
 arc_sum_step weight false entry rest = omega arith
 
 arc_sum : (weight : ℕ × ℕ → ℕ) (arc : ℕ) (entries : List Entry)
@@ -56,29 +56,29 @@ part_sums arc tick (entry ∷ entries) =
       part_sums arc tick entries,
     )
 
-pub arc_once : (entries : List Entry) (arc : ℕ) → AreKept entries
+pub arc_once : (entries : List Entry) (arc : ℕ) → AreEntries entries
     → (tick : ℕ) → count_by (λ (pair : ℕ × ℕ). pair.0 == tick) (pairs_at entries arc) ≤ 1
 arc_once entries arc kept tick =
     omega (arith, arc_sum (λ (pair : ℕ × ℕ). cond (pair.0 == tick) 1 0) arc entries, part_sums arc tick entries, kept.once arc tick)
 
-arc_chances : (entries : List Entry) (arc : ℕ) → All IsKept entries
+arc_chances : (entries : List Entry) (arc : ℕ) → All HasNoZero entries
     → All (λ (p : ℕ × ℕ). (1 ≤ p.0) × (1 ≤ p.1)) (pairs_at entries arc)
 arc_chances entries arc kept =
     All-map (λ (p : ℕ × ℕ). (1 ≤ p.0) × (1 ≤ p.1)) (λ (entry : Entry). (entry.tick, entry.mass)) (filter (λ (entry : Entry). entry.arc == arc) entries)
     (λ k d under.
-    let one = All-filter (λ (entry : Entry). entry.arc == arc) IsKept entries kept k d under in
+    let one = All-filter (λ (entry : Entry). entry.arc == arc) HasNoZero entries kept k d under in
     (one.tick, one.mass))
 
-pub arc_is_time : RisingIsTime → (entries : List Entry) (arc : ℕ) → AreKept entries
+pub arc_is_time : RisingIsTime → (entries : List Entry) (arc : ℕ) → AreEntries entries
     → IsTime (rising (pairs_at entries arc))
 arc_is_time valid entries arc kept =
     valid (pairs_at entries arc) (arc_chances entries arc kept.each) (arc_once entries arc kept)
 
 -- ---- another order of the entries
 
-kept_moved : (entries sorted : List Entry) → IsPermutation entries sorted → AreKept entries → AreKept sorted
+kept_moved : (entries sorted : List Entry) → IsPermutation entries sorted → AreEntries entries → AreEntries sorted
 kept_moved entries sorted moved kept = record {
-  each = All-permutation IsKept entries sorted moved kept.each;
+  each = All-permutation HasNoZero entries sorted moved kept.each;
   once = λ arc tick. omega (arith, sum_by-IsPermutation (λ (entry : Entry). cond (is_at arc tick entry) 1 0) entries sorted moved, kept.once arc tick);
 }
 
@@ -88,7 +88,7 @@ sums_moved entries sorted arc moved weight =
     arc_sum weight arc sorted ∙ sum_by-IsPermutation (part weight arc) entries sorted moved ∙ sym (arc_sum weight arc entries)
 
 rising_moved : RisingIsTime → RisingSums → SumsDecide → (entries sorted : List Entry) (arc : ℕ)
-    → IsPermutation entries sorted → AreKept entries
+    → IsPermutation entries sorted → AreEntries entries
     → rising (pairs_at sorted arc) ≡ rising (pairs_at entries arc)
 rising_moved valid sums known entries sorted arc moved kept =
     known (rising (pairs_at sorted arc)) (rising (pairs_at entries arc))
@@ -113,11 +113,11 @@ same_pairs scale number weight (p ∷ ps) (q ∷ qs) same sums = record {
 }
 
 pub record SameArcs (one other : Contents) : Type 0 where
-  pub arcs : (arc : ℕ × RawArc) → arc_of one arc ≡ arc_of other arc
-  pub faults : (arc : ℕ × RawArc) → arc_fault one arc ≡ arc_fault other arc
+  pub arcs : (arc : ℕ × RawArc) → timed_arc one arc ≡ timed_arc other arc
+  pub faults : (arc : ℕ × RawArc) → histogram_fault one arc ≡ histogram_fault other arc
 
 same_arcs : RisingIsTime → RisingSums → SumsDecide → (scale : ℕ) (entries sorted : List Entry)
-    → IsPermutation entries sorted → AreKept entries
+    → IsPermutation entries sorted → AreEntries entries
     → SameArcs (record { scale = scale; entries = sorted }) (record { scale = scale; entries = entries })
 same_arcs valid sums known scale entries sorted moved kept =
     let same = λ (arc : ℕ × RawArc).
@@ -133,22 +133,22 @@ all_faults : (one other : Contents) → SameArcs one other → (arcs : List (ℕ
 all_faults one other same [] = refl
 all_faults one other same (arc ∷ arcs) =
     ap (λ fault. option_or fault (least_fault one arcs)) (same.faults arc)
-    ∙ ap (option_or (arc_fault other arc)) (all_faults one other same arcs)
+    ∙ ap (option_or (histogram_fault other arc)) (all_faults one other same arcs)
 
 all_arcs : (one other : Contents) → SameArcs one other → (arcs : List (ℕ × RawArc))
-    → map (arc_of one) arcs ≡ map (arc_of other) arcs
+    → map (timed_arc one) arcs ≡ map (timed_arc other) arcs
 all_arcs one other same [] = refl
 all_arcs one other same (arc ∷ arcs) =
-    ap (λ first. first ∷ map (arc_of one) arcs) (same.arcs arc)
-    ∙ ap (λ more. arc_of other arc ∷ more) (all_arcs one other same arcs)
+    ap (λ first. first ∷ map (timed_arc one) arcs) (same.arcs arc)
+    ∙ ap (λ more. timed_arc other arc ∷ more) (all_arcs one other same arcs)
 
 same_timed : (one other : Contents) → SameArcs one other → (raw : List RawArc) → timed one raw ≡ timed other raw
 same_timed one other same raw =
-    ap (λ fault. fault_first fault (Ok (map (arc_of one) (numbered_arcs raw)))) (all_faults one other same (numbered_arcs raw))
+    ap (λ fault. fault_first fault (Ok (map (timed_arc one) (numbered_arcs raw)))) (all_faults one other same (numbered_arcs raw))
     ∙ ap (λ arcs. fault_first (least_fault other (numbered_arcs raw)) (Ok arcs)) (all_arcs one other same (numbered_arcs raw))
 
 pub timed_moved : RisingIsTime → RisingSums → SumsDecide → (table : Table) (known : Contents)
-    → Holds table known → AreKept known.entries → (raw : List RawArc)
+    → HoldsContents table known → AreEntries known.entries → (raw : List RawArc)
     → timed (contents_in table) raw ≡ timed known raw
 timed_moved valid sums decide table known holds kept raw =
     rw holds.scale

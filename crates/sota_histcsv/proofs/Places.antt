@@ -7,8 +7,8 @@ use Rattle.std.proofs.lemmas.List.Elements.{All-nil, All-cons, All-head, All-tai
 use Rattle.sota_hist.specs.Time.{RisesFrom, IsTime}
 use Rattle.sota_histcsv.specs.declared.entry.Entry.{Entry}
 use Rattle.sota_histcsv.specs.Records.{same_place}
-use Rattle.sota_histcsv.specs.Histograms.{pairs_of, pairs_at}
-use Rattle.sota_histcsv.specs.Kept.{IsKept, IsBelow, PlacesRise}
+use Rattle.sota_histcsv.specs.Histograms.{tick_pairs, pairs_at}
+use Rattle.sota_histcsv.specs.Kept.{HasNoZero, IsBelow, PlacesRise}
 use Rattle.sota_histcsv.specs.Repeats.{IsBefore, IsByPlace, IsLeastRepeat}
 
 -- ---- entries in order of which none repeats a place
@@ -98,24 +98,24 @@ next_above entry entries rise k d under same =
     (λ (p : (entry.arc ≡ (get_or entries k d).arc) × (entry.tick < (get_or entries k d).tick)). p.1)
     (all_above entry entries rise k d under)
 
-arc_rises : (arc floor : ℕ) (entries : List Entry) → PlacesRise entries → All IsKept entries
+arc_rises : (arc floor : ℕ) (entries : List Entry) → PlacesRise entries → All HasNoZero entries
     → All (λ (entry : Entry). entry.arc ≡ arc → floor < entry.tick) entries
     → RisesFrom floor (pairs_at entries arc)
 arc_rises arc floor [] rise kept high = tt
 arc_rises arc floor (entry ∷ entries) rise kept high =
     let tail = rise_tail entry entries rise in
-    let more = All-tail IsKept entry entries kept in
+    let more = All-tail HasNoZero entry entries kept in
     let rest = All-tail (λ (entry : Entry). entry.arc ≡ arc → floor < entry.tick) entry entries high in
-    elim (entry.arc == arc) as (λ b. entry.arc == arc ≡ b → RisesFrom floor (pairs_of (cond b (entry ∷ filter (λ (entry : Entry). entry.arc == arc) entries) (filter (λ (entry : Entry). entry.arc == arc) entries)))) [
+    elim (entry.arc == arc) as (λ b. entry.arc == arc ≡ b → RisesFrom floor (tick_pairs (cond b (entry ∷ filter (λ (entry : Entry). entry.arc == arc) entries) (filter (λ (entry : Entry). entry.arc == arc) entries)))) [
       | true ↦ λ here.
           let same : entry.arc ≡ arc = eqb-true entry.arc arc here in (
             All-head (λ (entry : Entry). entry.arc ≡ arc → floor < entry.tick) entry entries high same,
-            (All-head IsKept entry entries kept).mass,
+            (All-head HasNoZero entry entries kept).mass,
             arc_rises arc entry.tick entries tail more (λ k d under at. next_above entry entries rise k d under (at ∙ sym same)),
           )
       | false ↦ λ here. arc_rises arc floor entries tail more rest
     ] refl
 
-pub arc_is_time : (arc : ℕ) (entries : List Entry) → PlacesRise entries → All IsKept entries
+pub arc_is_time : (arc : ℕ) (entries : List Entry) → PlacesRise entries → All HasNoZero entries
     → IsTime (pairs_at entries arc)
 arc_is_time arc entries rise kept = arc_rises arc 0 entries rise kept (λ k d under same. (kept k d under).tick)

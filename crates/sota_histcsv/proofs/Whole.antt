@@ -17,8 +17,8 @@ use Rattle.sota_histcsv.specs.declared.table.Table.{Table}
 use Rattle.sota_histcsv.specs.declared.fault.HistFileFault.{HistFileFault}
 use Rattle.sota_histcsv.specs.declared.fault.HistFileFault.TheVariants.{Header, Sum, ZeroTime}
 use Rattle.sota_histcsv.specs.Records.{is_marked, without_mark, text_records}
-use Rattle.sota_histcsv.specs.Histograms.{Contents, contents, pairs_at, time_by, time_fault, arc_of, arc_fault, least_fault, numbered_arcs, timed, net_of, hist_net}
-use Rattle.sota_histcsv.specs.Kept.{Holds, Tabulates}
+use Rattle.sota_histcsv.specs.Histograms.{Contents, contents, pairs_at, time_by, time_fault, timed_arc, histogram_fault, least_fault, numbered_arcs, timed, net_of, hist_net}
+use Rattle.sota_histcsv.specs.Kept.{HoldsContents, Tabulates}
 use Rattle.sota_histcsv.proofs.Keeping.{both_none, first_ok, AreContents, are_contents}
 use Rattle.sota_histcsv.proofs.Moved.{arc_is_time}
 
@@ -55,25 +55,25 @@ all_arcs : RisingIsTime → RisingSums → (net : Net) (known : Contents) (numbe
     → known.scale ≡ net.scale → AreContents known
     → All (λ (arc : RawArc). IsNode net arc.tail) raw → All (λ (arc : RawArc). IsNode net arc.head) raw
     → least_fault known (enumerate_from number raw) ≡ None
-    → All (IsArc net) (map (arc_of known) (enumerate_from number raw))
+    → All (IsArc net) (map (timed_arc known) (enumerate_from number raw))
 all_arcs valid sums net known number [] scale are tails heads none = All-nil (IsArc net)
 all_arcs valid sums net known number (arc ∷ raw) scale are tails heads none =
-    let both = both_none (arc_fault known (number, arc)) (least_fault known (enumerate_from (number + 1) raw)) none in
+    let both = both_none (histogram_fault known (number, arc)) (least_fault known (enumerate_from (number + 1) raw)) none in
     let time = takes sums known.scale number arc.weight (pairs_at known.entries number) are.scale
     (arc_is_time valid known.entries number are.kept) both.0 in
-    let here : IsArc net (arc_of known (number, arc)) = record {
+    let here : IsArc net (timed_arc known (number, arc)) = record {
       tail = All-head (λ (arc : RawArc). IsNode net arc.tail) arc raw tails;
       head = All-head (λ (arc : RawArc). IsNode net arc.head) arc raw heads;
       time = time.time;
       total = omega (arith, time.few, scale);
     } in
-    All-cons (IsArc net) (arc_of known (number, arc)) _ here
+    All-cons (IsArc net) (timed_arc known (number, arc)) _ here
     (all_arcs valid sums net known (number + 1) raw scale are
     (All-tail (λ (arc : RawArc). IsNode net arc.tail) arc raw tails)
     (All-tail (λ (arc : RawArc). IsNode net arc.head) arc raw heads) both.1)
 
 same_length : (known : Contents) (number : ℕ) (raw : List RawArc)
-    → length (map (arc_of known) (enumerate_from number raw)) ≡ length raw
+    → length (map (timed_arc known) (enumerate_from number raw)) ≡ length raw
 same_length known number [] = refl
 same_length known number (arc ∷ raw) = omega (arith, same_length known (number + 1) raw)
 
@@ -86,8 +86,8 @@ pub record AreArcs (graph : RawGraph) (known : Contents) (arcs : List Arc) : Typ
 pub are_arcs : RisingIsTime → RisingSums → (graph : RawGraph) (known : Contents) (arcs : List Arc)
     → IsGraph graph → AreContents known → timed known graph.arcs ≡ Ok arcs → AreArcs graph known arcs
 are_arcs valid sums graph known arcs is are e =
-    let ok = first_ok (least_fault known (numbered_arcs graph.arcs)) (map (arc_of known) (numbered_arcs graph.arcs)) arcs e in
-    let net : Net = record { nodes = graph.nodes; scale = known.scale; arcs = map (arc_of known) (numbered_arcs graph.arcs) } in
+    let ok = first_ok (least_fault known (numbered_arcs graph.arcs)) (map (timed_arc known) (numbered_arcs graph.arcs)) arcs e in
+    let net : Net = record { nodes = graph.nodes; scale = known.scale; arcs = map (timed_arc known) (numbered_arcs graph.arcs) } in
     subst (AreArcs graph known) ok.1
     (record {
       few = same_length known 1 graph.arcs;
@@ -144,7 +144,7 @@ text_is valid sums bytes graph net is e =
 pub record IsRead (bytes : List ℕ) (graph : RawGraph) (table : Table) : Type 0 where
   pub known : Contents
   pub is : contents (length graph.arcs) (text_records (without_mark bytes)) ≡ Ok known
-  pub holds : Holds table known
+  pub holds : HoldsContents table known
   pub are : AreContents known
 
 read_from : (bytes : List ℕ) (graph : RawGraph) (table : Table) (answer : Result Contents HistFileFault)

@@ -10,8 +10,9 @@ use Rattle.sota_network.specs.Network.{Net}
 use Rattle.sota_network.specs.declared.network.Arc.{Arc}
 use Rattle.sota_dimacs.specs.declared.graph.RawGraph.{RawGraph}
 use Rattle.sota_dimacs.specs.declared.graph.RawArc.{RawArc}
-use Rattle.sota_histcsv.specs.Records.{is_marked, without_mark, text_records, Row, numbered_rows}
-use Rattle.sota_histcsv.specs.Records.{header_scale, entries_in, first_fault}
+use Rattle.sota_histcsv.specs.Records.{is_marked, without_mark, text_records}
+use Rattle.sota_histcsv.specs.Records.{NumberedRecord, numbered_rows}
+use Rattle.sota_histcsv.specs.Records.{header_scale, entries_in, first_record_fault}
 use Rattle.sota_histcsv.specs.declared.entry.Entry.{Entry}
 use Rattle.sota_histcsv.specs.declared.fault.HistFileFault.{HistFileFault}
 use Rattle.sota_histcsv.specs.declared.fault.HistFileFault.TheVariants.{Header, Sum, ZeroTime}
@@ -31,10 +32,10 @@ pub record Contents : Type 0 where
   pub entries : List Entry
 
 -- the contents of records after a header that has this scale, in a graph of so many arcs
-abbrev pub contents_after : ℕ → Option ℕ → List Row → Result Contents HistFileFault
+abbrev pub contents_after : ℕ → Option ℕ → List NumberedRecord → Result Contents HistFileFault
 contents_after arcs None rows = Err Header
 contents_after arcs (Some scale) rows =
-    fault_first (first_fault arcs [] rows)
+    fault_first (first_record_fault arcs [] rows)
     (Ok (record { scale = scale; entries = entries_in rows }))
 
 -- the contents of records, or the fault of the first that is wrong
@@ -45,12 +46,12 @@ contents arcs (header ∷ rows) = contents_after arcs (header_scale header) (num
 -- ---- the arcs
 
 -- the ticks and masses of entries, in their order
-abbrev pub pairs_of : List Entry → List (ℕ × ℕ)
-pairs_of entries = map (λ entry. (entry.tick, entry.mass)) entries
+abbrev pub tick_pairs : List Entry → List (ℕ × ℕ)
+tick_pairs entries = map (λ entry. (entry.tick, entry.mass)) entries
 
 -- those that records give to an arc
 abbrev pub pairs_at : List Entry → ℕ → List (ℕ × ℕ)
-pairs_at entries arc = pairs_of (filter (λ entry. entry.arc == arc) entries)
+pairs_at entries arc = tick_pairs (filter (λ entry. entry.arc == arc) entries)
 
 -- the time of an arc that has these pairs: in rising ticks, or all mass at the arc's weight where
 -- there is none
@@ -65,21 +66,21 @@ time_fault scale number weight (pair ∷ pairs) =
     if nat_le (total (pair ∷ pairs)) scale then None else Some (Sum number)
 
 -- an arc of the graph, which has a number, with its time
-abbrev pub arc_of : Contents → ℕ × RawArc → Arc
-arc_of known arc = record {
+abbrev pub timed_arc : Contents → ℕ × RawArc → Arc
+timed_arc known arc = record {
   tail = arc.1.tail;
   head = arc.1.head;
   time = time_by known.scale arc.1.weight (pairs_at known.entries arc.0);
 }
 
-abbrev pub arc_fault : Contents → ℕ × RawArc → Option HistFileFault
-arc_fault known arc =
+abbrev pub histogram_fault : Contents → ℕ × RawArc → Option HistFileFault
+histogram_fault known arc =
     time_fault known.scale arc.0 arc.1.weight (pairs_at known.entries arc.0)
 
 -- the fault of the least arc that has one
 abbrev pub least_fault : Contents → List (ℕ × RawArc) → Option HistFileFault
 least_fault known [] = None
-least_fault known (arc ∷ arcs) = option_or (arc_fault known arc) (least_fault known arcs)
+least_fault known (arc ∷ arcs) = option_or (histogram_fault known arc) (least_fault known arcs)
 
 -- arcs are counted from 1
 abbrev pub numbered_arcs : List RawArc → List (ℕ × RawArc)
@@ -89,7 +90,7 @@ numbered_arcs arcs = enumerate_from 1 arcs
 abbrev pub timed : Contents → List RawArc → Result (List Arc) HistFileFault
 timed known arcs =
     fault_first (least_fault known (numbered_arcs arcs))
-    (Ok (map (arc_of known) (numbered_arcs arcs)))
+    (Ok (map (timed_arc known) (numbered_arcs arcs)))
 
 -- ---- the whole text
 

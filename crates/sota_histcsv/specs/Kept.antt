@@ -11,7 +11,7 @@ use Rattle.sota_histcsv.specs.Words.{is_shortage}
 use Rattle.sota_histcsv.specs.Histograms.{Contents}
 
 -- an entry gives mass to a tick of an arc, and none of the three numbers is 0
-pub record IsKept (entry : Entry) : Type 0 where
+pub record HasNoZero (entry : Entry) : Type 0 where
   pub arc : 1 ≤ entry.arc
   pub tick : 1 ≤ entry.tick
   pub mass : 1 ≤ entry.mass
@@ -20,8 +20,8 @@ abbrev pub is_at : ℕ → ℕ → Entry → Bool
 is_at arc tick entry = (arc == entry.arc) && (tick == entry.tick)
 
 -- a tick of an arc is given mass at most once
-pub record AreKept (entries : List Entry) : Type 0 where
-  pub each : All IsKept entries
+pub record AreEntries (entries : List Entry) : Type 0 where
+  pub each : All HasNoZero entries
   pub once : (arc tick : ℕ) → count_by (is_at arc tick) entries ≤ 1
 
 -- entries stand in the order of their records
@@ -43,13 +43,13 @@ abbrev pub contents_in : Table → Contents
 contents_in table = record { scale = table.scale; entries = table.entries.items }
 
 -- a table holds these contents, its entries by rising places
-pub record Holds (table : Table) (known : Contents) : Type 0 where
+pub record HoldsContents (table : Table) (known : Contents) : Type 0 where
   pub scale : table.scale ≡ known.scale
   pub moved : IsPermutation known.entries table.entries.items
   pub rise : PlacesRise table.entries.items
 
 -- a table holds the contents, or the fault is theirs, unless it is want of memory
 abbrev pub Tabulates : Result Table HistFileFault → Result Contents HistFileFault → Type 0
-Tabulates (Ok table) (Ok known) = Holds table known
+Tabulates (Ok table) (Ok known) = HoldsContents table known
 Tabulates (Ok table) (Err fault) = ⊥
 Tabulates (Err fault) known = Unless (is_shortage fault) (known ≡ Err fault)

@@ -32,11 +32,11 @@ abbrev pub text_records : List ℕ → List (List (List ℕ))
 text_records text = records default_config text
 
 -- a record with its number; the header has the number 0
-abbrev pub Row : Type 0
-Row = ℕ × List (List ℕ)
+abbrev pub NumberedRecord : Type 0
+NumberedRecord = ℕ × List (List ℕ)
 
 -- the records after the header, which are counted from 1
-abbrev pub numbered_rows : List (List (List ℕ)) → List Row
+abbrev pub numbered_rows : List (List (List ℕ)) → List NumberedRecord
 numbered_rows rows = enumerate_from 1 rows
 
 -- ---- the header
@@ -73,8 +73,8 @@ abbrev pub entry_by : ℕ → List ℕ × List ℕ × List ℕ → Option Entry
 entry_by number word =
     entry_of_numbers number (number_of word.0) (number_of word.1) (number_of word.2)
 
-abbrev pub entry_of : Row → Option Entry
-entry_of row = option_and_then (entry_by row.0) (three row.1)
+abbrev pub row_entry : NumberedRecord → Option Entry
+row_entry row = option_and_then (entry_by row.0) (three row.1)
 
 -- a mass of 0 is no chance, so such a record is dropped, whatever its tick
 abbrev pub kept : Option Entry → Option Entry
@@ -82,8 +82,8 @@ kept None = None
 kept (Some entry) = if entry.mass == 0 then None else Some entry
 
 -- what the records say that are not dropped
-abbrev pub entries_in : List Row → List Entry
-entries_in rows = filter_map (λ row. kept (entry_of row)) rows
+abbrev pub entries_in : List NumberedRecord → List Entry
+entries_in rows = filter_map (λ row. kept (row_entry row)) rows
 
 -- ---- what is wrong with a record
 
@@ -101,9 +101,9 @@ number_fault arcs number None = Some (Number number)
 number_fault arcs number (Some entry) = entry_fault arcs entry
 
 -- what is wrong with a record by itself, in a graph of so many arcs
-abbrev pub own_fault : ℕ → Row → Option HistFileFault
+abbrev pub own_fault : ℕ → NumberedRecord → Option HistFileFault
 own_fault arcs row =
-    if length row.1 == 3 then number_fault arcs row.0 (entry_of row) else Some (Fields row.0)
+    if length row.1 == 3 then number_fault arcs row.0 (row_entry row) else Some (Fields row.0)
 
 -- two records give mass to the same tick of the same arc
 abbrev pub same_place : Entry → Entry → Bool
@@ -116,13 +116,13 @@ repeat_fault before (Some entry) =
     if list_any (same_place entry) before then Some (RepeatedTick entry.number) else None
 
 -- what is wrong with a record, the first in this order, where those before it gave these entries
-abbrev pub record_fault : ℕ → List Entry → Row → Option HistFileFault
+abbrev pub record_fault : ℕ → List Entry → NumberedRecord → Option HistFileFault
 record_fault arcs before row =
-    option_or (own_fault arcs row) (repeat_fault before (kept (entry_of row)))
+    option_or (own_fault arcs row) (repeat_fault before (kept (row_entry row)))
 
 -- the fault of the first record that has one, of records that stand after others
-abbrev pub first_fault : ℕ → List Row → List Row → Option HistFileFault
-first_fault arcs before [] = None
-first_fault arcs before (row ∷ rows) =
+abbrev pub first_record_fault : ℕ → List NumberedRecord → List NumberedRecord → Option HistFileFault
+first_record_fault arcs before [] = None
+first_record_fault arcs before (row ∷ rows) =
     option_or
-    (record_fault arcs (entries_in before) row) (first_fault arcs (before ++ row ∷ []) rows)
+    (record_fault arcs (entries_in before) row) (first_record_fault arcs (before ++ row ∷ []) rows)

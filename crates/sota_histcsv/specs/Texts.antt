@@ -4,16 +4,17 @@ use Rattle.std.specs.List.{All, count_by}
 use Rattle.sota_network.specs.Network.{Net, IsNet}
 use Rattle.sota_dimacs.specs.declared.graph.RawGraph.{RawGraph}
 use Rattle.sota_histcsv.specs.declared.entry.Entry.{Entry}
-use Rattle.sota_histcsv.specs.Records.{is_marked, without_mark, text_records, Row, numbered_rows}
-use Rattle.sota_histcsv.specs.Records.{header_scale, entry_of, entries_in}
-use Rattle.sota_histcsv.specs.Histograms.{arc_of, numbered_arcs}
+use Rattle.sota_histcsv.specs.Records.{is_marked, without_mark, text_records}
+use Rattle.sota_histcsv.specs.Records.{NumberedRecord, numbered_rows}
+use Rattle.sota_histcsv.specs.Records.{header_scale, row_entry, entries_in}
+use Rattle.sota_histcsv.specs.Histograms.{timed_arc, numbered_arcs}
 use Rattle.sota_histcsv.specs.Kept.{is_at}
 
 -- a record is three numbers, a mass at a tick of an arc, in a graph of so many arcs. A road takes
 -- time: a positive mass stands at a positive tick
-pub record Gives (arcs : ℕ) (row : Row) : Type 0 where
+pub record Gives (arcs : ℕ) (row : NumberedRecord) : Type 0 where
   pub entry : Entry
-  pub numbers : entry_of row ≡ Some entry
+  pub numbers : row_entry row ≡ Some entry
   pub arc : (1 ≤ entry.arc) × (entry.arc ≤ arcs)
   pub tick : 1 ≤ entry.mass → 1 ≤ entry.tick
 
@@ -30,6 +31,6 @@ pub record IsTextOf (bytes : List ℕ) (graph : RawGraph) (net : Net) : Type 0 w
   pub once : (arc tick : ℕ) → count_by (is_at arc tick) (entries_in (numbered_rows rows)) ≤ 1
   pub nodes : net.nodes ≡ graph.nodes
   pub arcs : net.arcs
-      ≡ map (arc_of (record { scale = net.scale; entries = entries_in (numbered_rows rows) }))
+      ≡ map (timed_arc (record { scale = net.scale; entries = entries_in (numbered_rows rows) }))
       (numbered_arcs graph.arcs)
   pub valid : IsNet net

@@ -1,7 +1,7 @@
 // What a record of a histogram text says by itself.
 ghost use Rattle.std.specs.Prelude.{ℕ, ◌≡◌, Some, IfOk, IfSome, MatchResult};
 ghost use Rattle.csv.specs.Records.{fields_of};
-ghost use Rattle.sota_histcsv.specs.Records.{entry_by, entry_of, own_fault};
+ghost use Rattle.sota_histcsv.specs.Records.{entry_by, row_entry, own_fault};
 
 use crate::fault::HistFileFault;
 use crate::records::three_fields;
@@ -23,7 +23,7 @@ impl Entry {
     /// What the record of this number says, where its fields are three numbers.
     pub(crate) fn read(number: u32, row: &ByteRecord) -> Result<Entry, HistFileFault>
         ensures value { MatchResult result
-            (λ entry. entry_of (number, fields_of row.now) ≡ Some entry)
+            (λ entry. row_entry (number, fields_of row.now) ≡ Some entry)
             (λ fault. (arcs : ℕ) → own_fault arcs (number, fields_of row.now) ≡ Some fault) }
         ensures number { IfOk result (λ entry. entry.number ≡ number) }
     {

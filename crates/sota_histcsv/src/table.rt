@@ -4,7 +4,7 @@ ghost use Rattle.std.specs.Prelude.{option_to_list, OnOk, IfOk, IfSome, MatchRes
 ghost use Rattle.csv.specs.Records.{fields_of};
 ghost use Rattle.sota_units.specs.Limits.{TEXT_LIMIT};
 ghost use Rattle.sota_histcsv.specs.Records.{is_marked, text_records, scale_in, header_scale};
-ghost use Rattle.sota_histcsv.specs.Records.{entry_of, kept, is_arc, own_fault};
+ghost use Rattle.sota_histcsv.specs.Records.{row_entry, kept, is_arc, own_fault};
 ghost use Rattle.sota_histcsv.specs.Histograms.{fault_first, contents};
 ghost use Rattle.sota_histcsv.specs.Kept.{contents_in, Tabulates, NumbersRise};
 ghost use Rattle.sota_histcsv.specs.Repeats.{first_repeat};
@@ -78,7 +78,7 @@ fn arrange(table: Table, fault: Option<HistFileFault>) -> Result<Table, HistFile
 fn kept_entry(arcs: u32, number: u32, row: &ByteRecord) -> Result<Option<Entry>, HistFileFault>
     ensures fault { MatchResult result
         (λ entry. (own_fault arcs (number, fields_of row.now) ≡ None)
-        × (entry ≡ kept (entry_of (number, fields_of row.now))))
+        × (entry ≡ kept (row_entry (number, fields_of row.now))))
         (λ fault. own_fault arcs (number, fields_of row.now) ≡ Some fault) }
     ensures number { IfOk result (λ entry. IfSome entry (λ entry. entry.number ≡ number)) }
 {

@@ -5,8 +5,9 @@ ghost use Rattle.sota_units.specs.Limits.{ARC_LIMIT};
 ghost use Rattle.sota_units.specs.Memory.{Answers, AnswersBy};
 ghost use Rattle.sota_hist.specs.Time.{IsTime};
 ghost use Rattle.sota_histcsv.specs.Words.{is_shortage};
-ghost use Rattle.sota_histcsv.specs.Histograms.{fault_first, timed, time_by, time_fault, pairs_of};
-ghost use Rattle.sota_histcsv.specs.Kept.{contents_in, IsKept, PlacesRise};
+ghost use Rattle.sota_histcsv.specs.Histograms.{fault_first, tick_pairs, timed, time_by};
+ghost use Rattle.sota_histcsv.specs.Histograms.{time_fault};
+ghost use Rattle.sota_histcsv.specs.Kept.{contents_in, HasNoZero, PlacesRise};
 
 use crate::entry::Entry;
 use crate::fault::HistFileFault;
@@ -25,7 +26,7 @@ pub(crate) fn timed_arcs(
     raw: &[RawArc],
 ) -> Result<Vec<Arc>, HistFileFault>
     requires few { length raw.now ≤ ARC_LIMIT }
-    requires each { All IsKept table.now.entries.items }
+    requires each { All HasNoZero table.now.entries.items }
     requires rise { PlacesRise table.now.entries.items }
     requires room { length table.now.entries.items < 2 ^ 32 }
     ensures { AnswersBy is_shortage (λ arcs. arcs.items) result
@@ -66,7 +67,7 @@ fn count_first(entries: &[Entry], arc: ArcId) -> usize
 
 /// Makes a list the ticks and masses of entries.
 fn put_pairs(pairs: &mut Vec<(Tick, Mass)>, entries: &[Entry]) -> Result<(), NoMemory>
-    ensures { OnOk result (pairs.new.items ≡ pairs_of entries.now) }
+    ensures { OnOk result (pairs.new.items ≡ tick_pairs entries.now) }
 {
     pairs.clear();
     for entry in entries {

@@ -6,7 +6,7 @@ use Rattle.sota_hist.specs.Time.{least_tick}
 use Rattle.sota_network.specs.Network.{Net, arc_at}
 use Rattle.sota_network.specs.declared.network.Arc.{Arc}
 use Rattle.sota_kept.specs.Ticks.{END_LIMIT}
-use Rattle.sota_order.specs.Orders.{OrderView, CanBeMet, end_of, need_at}
+use Rattle.sota_order.specs.Orders.{OrderView, CanBeMet, order_end, need_at}
 
 abbrev pub three : Net
 three = record {
@@ -26,7 +26,7 @@ the : {x y : Arc} → Some x ≡ Some y → x ≡ y
 the h = cc
 
 abbrev Suffices : Arc → Type 0
-Suffices arc = need_at asked arc.tail ≤ max (end_of asked arc.head) (need_at asked arc.head) + least_tick arc.time
+Suffices arc = need_at asked arc.tail ≤ max (order_end asked arc.head) (need_at asked arc.head) + least_tick arc.time
 
 -- only the first road leads elsewhere than to the destination
 heads : (e : ℕ) (arc : Arc) → arc_at three e ≡ Some arc → arc.head ≢ 3 → Suffices arc

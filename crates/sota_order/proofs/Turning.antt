@@ -11,7 +11,7 @@ use Rattle.std.proofs.lemmas.List.Elements.{All-nil, All-cons, All-head, All-tai
 use Rattle.std.proofs.lemmas.List.Sums.{sum_by-cons}
 use Rattle.std.proofs.lemmas.List.Sorted.{le_from_greatest, All-permutation, sum_by-IsPermutation}
 use Rattle.std.proofs.lemmas.List.{get_or-set_same, get_or-set_other}
-use Rattle.sota_order.specs.Orders.{OrderView, end_of, need_at, with_front}
+use Rattle.sota_order.specs.Orders.{OrderView, order_end, need_at, with_front}
 use Rattle.sota_order.specs.Queue.{by_end, turns_of, IsTurn, AreTurns}
 use Rattle.sota_order.specs.declared.order.Turn.{Turn}
 
@@ -75,47 +75,47 @@ module _ (w : OrderView) (last : ℕ) (xs : List Turn) (are : AreTurns w last xs
   pub taken-turn : IsTurn w v
   taken-turn = All-head (IsTurn w) v ys each
 
-  own-count : cond (nat_lt (end_of w v.node) (need_at w v.node)) 1 0 ≡ suc (turns_of v.node ys)
+  own-count : cond (nat_lt (order_end w v.node) (need_at w v.node)) 1 0 ≡ suc (turns_of v.node ys)
   own-count =
       sym (are.once v.node taken-turn.node.0 (let h : v.node ≤ length w.needs = taken-turn.node.1 in omega arith))
       ∙ sym (turns-moved v.node xs (v ∷ ys) moved) ∙ turns-own v.node v ys refl ∙ (let z : 1 + turns_of v.node ys ≡ suc (turns_of v.node ys) = omega arith in z)
 
-  pub taken-needed : end_of w v.node < need_at w v.node
-  taken-needed = ltb-from (end_of w v.node) (need_at w v.node) (turns_of v.node ys) own-count
+  pub taken-needed : order_end w v.node < need_at w v.node
+  taken-needed = ltb-from (order_end w v.node) (need_at w v.node) (turns_of v.node ys) own-count
 
   taken-rest : turns_of v.node ys ≡ 0
   taken-rest =
-      let one : cond (nat_lt (end_of w v.node) (need_at w v.node)) 1 0 ≡ 1 = rw (lt-ltb (end_of w v.node) (need_at w v.node) taken-needed) refl in
+      let one : cond (nat_lt (order_end w v.node) (need_at w v.node)) 1 0 ≡ 1 = rw (lt-ltb (order_end w v.node) (need_at w v.node) taken-needed) refl in
       let both : 1 ≡ suc (turns_of v.node ys) = sym one ∙ own-count in
       omega (arith, both)
 
   -- no node that is not known as far as it is needed has a lesser end
-  pub taken-least : IsUpperBound by_end v xs → (j : ℕ) → 1 ≤ j → j ≤ last → end_of w j < need_at w j → end_of w v.node ≤ end_of w j
+  pub taken-least : IsUpperBound by_end v xs → (j : ℕ) → 1 ≤ j → j ≤ last → order_end w j < need_at w j → order_end w v.node ≤ order_end w j
   taken-least greatest j low high needed =
-      let count : turns_of j xs ≡ 1 = are.once j low high ∙ (rw (lt-ltb (end_of w j) (need_at w j) needed) refl) in
-      let both : All (λ (u : Turn). (u.end.0 ≡ end_of w u.node) × (v.end.0 ≤ u.end.0)) xs =
+      let count : turns_of j xs ≡ 1 = are.once j low high ∙ (rw (lt-ltb (order_end w j) (need_at w j) needed) refl) in
+      let both : All (λ (u : Turn). (u.end.0 ≡ order_end w u.node) × (v.end.0 ≤ u.end.0)) xs =
       λ k d h. ((are.each k d h).end, least-end v xs greatest k d h) in
-      let found = turns-some (λ (u : Turn). (u.end.0 ≡ end_of w u.node) × (v.end.0 ≤ u.end.0)) j xs (omega arith) both in
-      let mine : v.end.0 ≡ end_of w v.node = taken-turn.end in
-      let theirs : found.0.end.0 ≡ end_of w j = found.2.0 ∙ ap (end_of w) found.1 in
+      let found = turns-some (λ (u : Turn). (u.end.0 ≡ order_end w u.node) × (v.end.0 ≤ u.end.0)) j xs (omega arith) both in
+      let mine : v.end.0 ≡ order_end w v.node = taken-turn.end in
+      let theirs : found.0.end.0 ≡ order_end w j = found.2.0 ∙ ap (order_end w) found.1 in
       let le : v.end.0 ≤ found.0.end.0 = found.2.1 in
       omega arith
 
   -- ---- the node's front is another
-  module _ (to : ℕ) (more : end_of w v.node < to) (within : v.node ≤ length w.fronts) where
-    pub front-own : end_of (with_front w v.node to) v.node ≡ to
+  module _ (to : ℕ) (more : order_end w v.node < to) (within : v.node ≤ length w.fronts) where
+    pub front-own : order_end (with_front w v.node to) v.node ≡ to
     front-own =
         let low : 1 ≤ v.node = taken-turn.node.0 in
         let at : get_or (set w.fronts (v.node - 1) to) (v.node - 1) 0 ≡ to = get_or-set_same w.fronts (v.node - 1) to 0 (omega arith) in
         rw at (omega arith)
 
-    pub front-other : (j : ℕ) → 1 ≤ j → (j ≡ v.node → ⊥) → end_of (with_front w v.node to) j ≡ end_of w j
+    pub front-other : (j : ℕ) → 1 ≤ j → (j ≡ v.node → ⊥) → order_end (with_front w v.node to) j ≡ order_end w j
     front-other j from off =
         let low : 1 ≤ v.node = taken-turn.node.0 in
         let at : get_or (set w.fronts (v.node - 1) to) (j - 1) 0 ≡ get_or w.fronts (j - 1) 0 = get_or-set_other w.fronts (v.node - 1) (j - 1) to 0 (λ z. off (omega arith)) in
         rw at refl
 
-    pub front-rises : (j : ℕ) → 1 ≤ j → end_of w j ≤ end_of (with_front w v.node to) j
+    pub front-rises : (j : ℕ) → 1 ≤ j → order_end w j ≤ order_end (with_front w v.node to) j
     front-rises j from =
         ⊎_elim
         (λ (at : j ≡ v.node). rw (at, front-own) (omega arith))
@@ -139,7 +139,7 @@ module _ (w : OrderView) (last : ℕ) (xs : List Turn) (are : AreTurns w last xs
           ⊎_elim
           (λ (at : i ≡ v.node).
           let none : turns_of i ys ≡ 0 = ap (λ (x : ℕ). turns_of x ys) at ∙ taken-rest in
-          let end : end_of (with_front w v.node to) i ≡ to = ap (end_of (with_front w v.node to)) at ∙ front-own in
+          let end : order_end (with_front w v.node to) i ≡ to = ap (order_end (with_front w v.node to)) at ∙ front-own in
           let need : need_at w i ≤ to = subst (λ (x : ℕ). need_at w x ≤ to) (sym at) enough in
           none ∙ sym (rw (end, le-ltb to (need_at w i) need) refl))
           (λ (off : i ≡ v.node → ⊥). rest-once i off ∙ are.once i low high ∙ sym (rw (front-other i low off) refl))
@@ -151,13 +151,13 @@ module _ (w : OrderView) (last : ℕ) (xs : List Turn) (are : AreTurns w last xs
     turns-again zs u same end put less = record {
       each =
           All-permutation (IsTurn (with_front w v.node to)) (u ∷ ys) zs put
-          (All-cons (IsTurn (with_front w v.node to)) u ys (record { node = rw same taken-turn.node; end = end ∙ sym front-own ∙ ap (end_of (with_front w v.node to)) (sym same) }) rest-turns);
+          (All-cons (IsTurn (with_front w v.node to)) u ys (record { node = rw same taken-turn.node; end = end ∙ sym front-own ∙ ap (order_end (with_front w v.node to)) (sym same) }) rest-turns);
       once = λ i low high.
           ⊎_elim
           (λ (at : i ≡ v.node).
           let one : turns_of i zs ≡ 1 =
           turns-moved i (u ∷ ys) zs put ∙ turns-own i u ys (same ∙ sym at) ∙ (let none : turns_of i ys ≡ 0 = ap (λ (x : ℕ). turns_of x ys) at ∙ taken-rest in omega arith) in
-          let now : end_of (with_front w v.node to) i ≡ to = ap (end_of (with_front w v.node to)) at ∙ front-own in
+          let now : order_end (with_front w v.node to) i ≡ to = ap (order_end (with_front w v.node to)) at ∙ front-own in
           let need : to < need_at w i = subst (λ (x : ℕ). to < need_at w x) (sym at) less in
           one ∙ sym (rw (now, lt-ltb to (need_at w i) need) refl))
           (λ (off : i ≡ v.node → ⊥).
@@ -172,38 +172,38 @@ module _ (w : OrderView) (last : ℕ) (xs : List Turn) (are : AreTurns w last xs
 pub turns-first : (w : OrderView) → AreTurns w 0 []
 turns-first w = record { each = All-nil (IsTurn w); once = λ i low high. absurd (omega arith); later = λ i far. refl }
 
-pub turns-skip : (w : OrderView) (k : ℕ) (xs : List Turn) → AreTurns w k xs → need_at w (k + 1) ≤ end_of w (k + 1) → AreTurns w (k + 1) xs
+pub turns-skip : (w : OrderView) (k : ℕ) (xs : List Turn) → AreTurns w k xs → need_at w (k + 1) ≤ order_end w (k + 1) → AreTurns w (k + 1) xs
 turns-skip w k xs are met = record {
   each = are.each;
   once = λ i low high.
       ⊎_elim
       (λ (at : i ≡ k + 1).
-      let met' : need_at w i ≤ end_of w i = subst (λ (x : ℕ). need_at w x ≤ end_of w x) (sym at) met in
-      are.later i (omega arith) ∙ sym (rw (le-ltb (end_of w i) (need_at w i) met') refl))
+      let met' : need_at w i ≤ order_end w i = subst (λ (x : ℕ). need_at w x ≤ order_end w x) (sym at) met in
+      are.later i (omega arith) ∙ sym (rw (le-ltb (order_end w i) (need_at w i) met') refl))
       (λ (off : i ≡ k + 1 → ⊥). are.once i low (omega arith))
       (cases_eq i (k + 1));
   later = λ i far. are.later i (omega arith);
 }
 
-pub turns-more : (w : OrderView) (k : ℕ) (xs zs : List Turn) (u : Turn) → AreTurns w k xs → u.node ≡ k + 1 → k + 1 ≤ length w.needs → u.end.0 ≡ end_of w (k + 1) → end_of w (k + 1) < need_at w (k + 1) → IsPermutation (u ∷ xs) zs
+pub turns-more : (w : OrderView) (k : ℕ) (xs zs : List Turn) (u : Turn) → AreTurns w k xs → u.node ≡ k + 1 → k + 1 ≤ length w.needs → u.end.0 ≡ order_end w (k + 1) → order_end w (k + 1) < need_at w (k + 1) → IsPermutation (u ∷ xs) zs
     → AreTurns w (k + 1) zs
 turns-more w k xs zs u are own within end less put = record {
   each =
       All-permutation (IsTurn w) (u ∷ xs) zs put
-      (All-cons (IsTurn w) u xs (record { node = (omega arith, omega arith); end = end ∙ ap (end_of w) (sym own) }) are.each);
+      (All-cons (IsTurn w) u xs (record { node = (omega arith, omega arith); end = end ∙ ap (order_end w) (sym own) }) are.each);
   once = λ i low high.
       ⊎_elim
       (λ (at : i ≡ k + 1).
-      let less' : end_of w i < need_at w i = subst (λ (x : ℕ). end_of w x < need_at w x) (sym at) less in
+      let less' : order_end w i < need_at w i = subst (λ (x : ℕ). order_end w x < need_at w x) (sym at) less in
       let none : turns_of i xs ≡ 0 = are.later i (omega arith) in
-      turns-moved i (u ∷ xs) zs put ∙ turns-own i u xs (own ∙ sym at) ∙ (let z : 1 + turns_of i xs ≡ 1 = omega arith in z) ∙ sym (rw (lt-ltb (end_of w i) (need_at w i) less') refl))
+      turns-moved i (u ∷ xs) zs put ∙ turns-own i u xs (own ∙ sym at) ∙ (let z : 1 + turns_of i xs ≡ 1 = omega arith in z) ∙ sym (rw (lt-ltb (order_end w i) (need_at w i) less') refl))
       (λ (off : i ≡ k + 1 → ⊥). turns-moved i (u ∷ xs) zs put ∙ turns-other i u xs (λ z. off (sym z ∙ own)) ∙ are.once i low (omega arith))
       (cases_eq i (k + 1));
   later = λ i far. turns-moved i (u ∷ xs) zs put ∙ turns-other i u xs (λ z. omega arith) ∙ are.later i (omega arith);
 }
 
 -- the node of an index
-pub end-place : (w : OrderView) (k : ℕ) → end_of w (k + 1) ≡ max (get_or w.fronts k 0) (get_or w.bases k 0)
+pub end-place : (w : OrderView) (k : ℕ) → order_end w (k + 1) ≡ max (get_or w.fronts k 0) (get_or w.bases k 0)
 end-place w k = ap (λ (x : ℕ). max (get_or w.fronts x 0) (get_or w.bases x 0)) (let z : k + 1 - 1 ≡ k = omega arith in z)
 
 pub need-place : (w : OrderView) (k : ℕ) → need_at w (k + 1) ≡ get_or w.needs k 0

@@ -21,16 +21,16 @@ abbrev pub need_at : OrderView → ℕ → ℕ
 need_at w i = slice_index w.needs (i - 1)
 
 -- the known end of node i: below it all is known
-abbrev pub end_of : OrderView → ℕ → ℕ
-end_of w i = end_at w.fronts w.bases i
+abbrev pub order_end : OrderView → ℕ → ℕ
+order_end w i = end_at w.fronts w.bases i
 
 -- each open arc's head is known or needed as far as its tail needs it. A closed arc reads nothing
 abbrev pub HeadsSuffice : Net → OrderView → Type 0
 HeadsSuffice net w =
     (e : ℕ) (arc : Arc) → arc_at net e ≡ Some arc → arc.tail ≢ w.dest
-    → end_of w arc.tail < need_at w arc.tail → is_closed arc.time ≡ false → arc.head ≢ w.dest
+    → order_end w arc.tail < need_at w arc.tail → is_closed arc.time ≡ false → arc.head ≢ w.dest
     → need_at w arc.tail
-    ≤ max (end_of w arc.head) (need_at w arc.head) + least_tick arc.time
+    ≤ max (order_end w arc.head) (need_at w arc.head) + least_tick arc.time
 
 -- the needs can be met: the lists fit the network, nothing is needed of the destination, and each
 -- entry that is needed reads entries that are known or needed
@@ -63,8 +63,8 @@ pub record IsReach (net : Net) (w : OrderView) (i to : ℕ) : Type 0 where
 -- the next budgets of a node that is not known as far as it is needed
 pub record IsNext (net : Net) (w : OrderView) (extent : Extent) : Type 0 where
   pub node : IsNode net extent.node
-  pub needed : end_of w extent.node < need_at w extent.node
-  pub from : extent.from ≡ end_of w extent.node
+  pub needed : order_end w extent.node < need_at w extent.node
+  pub from : extent.from ≡ order_end w extent.node
   pub reach : IsReach net w extent.node extent.to
   pub some : extent.from < extent.to
 
@@ -79,4 +79,4 @@ with_front w i front = record {
 
 -- all is known as far as it is needed
 abbrev pub IsMet : Net → OrderView → Type 0
-IsMet net w = (i : ℕ) → IsNode net i → need_at w i ≤ end_of w i
+IsMet net w = (i : ℕ) → IsNode net i → need_at w i ≤ order_end w i

@@ -14,11 +14,11 @@ abbrev pub no_trips : Tally
 no_trips = record { arrived = 0; late = 0; stuck = 0; lost = 0 }
 
 -- one trip more, which ends so
-abbrev pub counted : Ending → Tally → Tally
-counted (Arrived spent) tally = record tally { arrived = tally.arrived + 1 }
-counted Late tally = record tally { late = tally.late + 1 }
-counted NoChoice tally = record tally { stuck = tally.stuck + 1 }
-counted Lost tally = record tally { lost = tally.lost + 1 }
+abbrev pub tallied : Ending → Tally → Tally
+tallied (Arrived spent) tally = record tally { arrived = tally.arrived + 1 }
+tallied Late tally = record tally { late = tally.late + 1 }
+tallied NoChoice tally = record tally { stuck = tally.stuck + 1 }
+tallied Lost tally = record tally { lost = tally.lost + 1 }
 
 -- how many trips there are
 abbrev pub trip_count : Tally → ℕ
@@ -31,7 +31,7 @@ trips net table zero words = (no_trips, words)
 trips net table (suc count) words =
     let before = trips net table count words in
     let last = trip net table before.1 in
-    (counted last.0 before.0, last.1)
+    (tallied last.0 before.0, last.1)
 
 -- the tally of so many trips by the words of a seed
 abbrev pub replayed : Net → Table → ℕ → ℕ → Tally

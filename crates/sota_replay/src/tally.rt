@@ -1,6 +1,6 @@
 // The tally of trips.
 ghost use Rattle.std.specs.Prelude.{◌≡◌, ◌+◌, ◌<◌, ◌^◌};
-ghost use Rattle.sota_replay.specs.Tally.{counted, trip_count, trips};
+ghost use Rattle.sota_replay.specs.Tally.{tallied, trip_count, trips};
 
 use crate::{Ending, trip};
 use sota_network::Network;
@@ -24,7 +24,7 @@ impl Tally {
     /// Counts a trip.
     fn count(&mut self, ending: Ending)
         requires { trip_count self.old + 1 < 2 ^ 32 }
-        ensures { self.new ≡ counted ending self.old }
+        ensures { self.new ≡ tallied ending self.old }
     {
         match ending {
             Ending::Arrived(_) => self.arrived += 1,

@@ -3,7 +3,7 @@ use Rattle.std.proofs.lemmas.Result.{err_from_is_err_and}
 use Rattle.std.proofs.lemmas.List.Sorted.{All-permutation}
 use Rattle.sota_histcsv.specs.Words.{is_shortage}
 use Rattle.sota_histcsv.specs.Histograms.{timed}
-use Rattle.sota_histcsv.specs.Kept.{IsKept, contents_in}
+use Rattle.sota_histcsv.specs.Kept.{HasNoZero, contents_in}
 use Rattle.sota_histcsv.proofs.Keeping.{unless_more}
 use Rattle.sota_histcsv.proofs.Moved.{timed_moved}
 use Rattle.sota_histcsv.proofs.Whole.{IsRead, AreArcs, is_read, are_arcs, net_refused, net_read}
@@ -27,7 +27,7 @@ same c is =
 pub timed_arcs-requires-clause-each : goal.timed_arcs-requires-clause-each
 timed_arcs-requires-clause-each c =
     let is = read (goal.at.timed_arcs-requires-clause-each c).In_ok-table in
-    All-permutation IsKept is.known.entries c.in_ok-table.table.entries.items is.holds.moved is.are.kept.each
+    All-permutation HasNoZero is.known.entries c.in_ok-table.table.entries.items is.holds.moved is.are.kept.each
 
 pub returns-in_err-arcs : goal.returns-in_err-arcs
 returns-in_err-arcs c =

@@ -2,7 +2,7 @@ use Rattle.std.proofs.Common.{◌≡◌, ◌≢◌, ◌+◌, Some, refl, sym, �
 use Rattle.std.proofs.lemmas.Bool.{ne_eqb}
 use Rattle.sota_hist.specs.Time.{least_tick}
 use Rattle.sota_network.specs.Network.{IsArc}
-use Rattle.sota_order.specs.Orders.{bound_of, end_of}
+use Rattle.sota_order.specs.Orders.{bound_of, order_end}
 use Rattle.sota_order.proofs.laws.extents_of_tables.Goals as goal
 
 pub returns : goal.returns
@@ -14,6 +14,6 @@ returns c = record {
       omega (arith, enough, ends arc.head is.head, needs arc.tail is.tail, needs arc.head is.head);
   extent = λ net w tables i to valid reach ends e arc at tail opened apart.
       let is : IsArc net arc = c.arcs_by_number.ensures net e arc valid at in
-      let bounded : bound_of w.dest w.fronts w.bases arc ≡ Some (end_of w arc.head + least_tick arc.time) = rw (ne_eqb arc.head w.dest apart, opened) refl in
-      omega (arith, reach.arcs e arc (end_of w arc.head + least_tick arc.time) at tail bounded, ends arc.head is.head);
+      let bounded : bound_of w.dest w.fronts w.bases arc ≡ Some (order_end w arc.head + least_tick arc.time) = rw (ne_eqb arc.head w.dest apart, opened) refl in
+      omega (arith, reach.arcs e arc (order_end w arc.head + least_tick arc.time) at tail bounded, ends arc.head is.head);
 }

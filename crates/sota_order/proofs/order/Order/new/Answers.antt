@@ -1,5 +1,5 @@
 use Rattle.std.proofs.Common.{rules, ℕ, ◌≡◌, ◌+◌, length, get_or, refl, sym, ◌∙◌, subst, arith, heap_items}
-use Rattle.sota_order.specs.Orders.{OrderView, end_of, need_at}
+use Rattle.sota_order.specs.Orders.{OrderView, order_end, need_at}
 use Rattle.sota_order.specs.Queue.{AreTurns}
 use Rattle.sota_order.proofs.Turning.{turns-skip, turns-more, end-place, need-place}
 use Rattle.sota_order.proofs.order.Order.new.Goals.{then-end-needs+in_ok-push, else-end-needs}
@@ -9,7 +9,7 @@ pub loop-index-preserved : goal.loop-index-preserved
 loop-index-preserved c =
     let w : OrderView = record { dest = c.args.dest; fronts = c.args.fronts.now; bases = c.args.bases.now; needs = c.args.needs.now } in
     let k : ℕ = c.loop-index.index in
-    let end : end_of w (k + 1) ≡ c.max-end.result = end-place w k ∙ sym c.max-end.ensures in
+    let end : order_end w (k + 1) ≡ c.max-end.result = end-place w k ∙ sym c.max-end.ensures in
     let need : need_at w (k + 1) ≡ get_or c.args.needs.now k 0 = need-place w k in
     elim c.if-end-needs.branch [
       | then-end-needs+in_ok-push b ↦ rw b.turns-is (record {
