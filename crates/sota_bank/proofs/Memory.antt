@@ -1,9 +1,10 @@
 -- What the walks of the unsafe functions share. Assumes `Logic`.
 --     word_had, word_made, mark_had, mark_made      a value of one pointer, and one of no bytes
+--     number_had, place_had      a number that was passed, and where places begin and one of their numbers
 --     slot_out, slot_in, run_out, run_in, slot_seen, run_seen      one place or a run of places is taken out of the row, put back, or seen
 --     of_room, to_room      room for an array is a row of empty places
 use mathlib.Core.Path.{◌≡◌, refl, sym, ap, subst, ◌∙◌}
-use Prim.Native.Nat.{ℕ, zero, suc, ◌+◌, ◌*◌, ◌<◌, ◌≤◌}
+use Prim.Native.Nat.{ℕ, zero, suc, ◌+◌, ◌*◌, ◌^◌, ◌<◌, ◌≤◌}
 use native.Mathlib.Omega.{arith}
 use native.Mathlib.Nat.{zero-mul, suc-mul}
 use mathlib.Core.List.{List, [], ◌∷◌, ◌++◌, map}
@@ -11,15 +12,16 @@ use lib.ListN.{length, take, drop, set, get_or, replicate, take-append-drop, len
 use lib.Seq.{drop-cons, drop-drop, set_split}
 use seplogic.Ra.Ura.{Ura}
 use base.Fraction.{full_share}
-use mir.Syntax.{Ty, ty_array}
-use mir.Val.{Val, vstruct, vcons, vnil, of_list}
+use mir.Syntax.{Ty, ty_array, w64}
+use mir.Val.{Val, vint, vstruct, vcons, vnil, of_list}
 use base.Logic.{SProp, ent, sep, emp, ex, guard, via, snd∗, id⊢, mono_r}
 use base.Fml.{Fml, Lft, ftrue, fsep, fat, froom}
 use types.Logic.{Logic, sem}
 use types.SemTy.{cells}
 use contract.Monad.{fact, fact_i}
-use types.Kit.{Item, Goal, Seq, Step, step, prop, ‵, raw, some, given, ◌⊛◌, ◌$◌, ◌∵◌, !, qed, by, move, keep, drop as skip, use0, use1, use2, pick, learn, split, check, show, frame, fsplit, fjoin, fpick, fpack, feq_i, feq_l, rewrite, done}
-use denote.RattleType.{RattleType, Valss}
+use types.Kit.{Item, Goal, Seq, Step, step, prop, ‵, raw, some, given, ◌⊛◌, ◌$◌, ◌∵◌, !, qed, by, move, keep, drop as skip, use0, use1, use2, pick, learn, split, check, show, frame, fsplit, fjoin, fpick, fpack, feq_i, feq_l, flt_l, rewrite, done}
+use denote.RattleType.{RattleType, Denots, Valss, owns}
+use denote.Builtin.{usize}
 use denote.Laws.{Typed, Is, shows}
 use denote.Param.{param, layout}
 use denote.Param.Laws.{Laws, param_laws}
@@ -83,6 +85,19 @@ module _ {M : Type 1} {𝓤 : Ura M} {𝓛 : Logic 𝓤} {K : Type 0} {Γ : List
   pub mark_had : K → (E : El) (vs : List Val) → (vs ≡ mark ∷ [] → Seq K 𝓛 Γ G) → Seq K 𝓛 (‵ ((Mark E).own_val (tt, tt) vs) ∷ Γ) G
   mark_had t E vs k = fpick t (λ vss. fsplit t $ feq_l t (λ ev. fsplit t $ fpick t (λ uss. fsplit t $ feq_l t (λ e. skip t $ skip t $
       k (subst (λ (ws : List Val). vs ≡ vstruct (of_list (ws ++ [])) ∷ []) e ev)))))
+
+module _ {M : Type 1} {𝓤 : Ura M} {𝓛 : Logic 𝓤} {K : Type 0} {Γ : List (Item 𝓤)} {G : Goal 𝓤 𝓛.H} where
+  -- a number that was passed, before the values of the types Ts
+  pub number_had : K → (Ts : List RattleType) (n : ℕ) (xs : Denots Ts) (us : List Val) (uss : Valss Ts) → (us ≡ vint w64 n ∷ [] → n < 2 ^ 64 → Seq K 𝓛 (‵ (owns Ts xs uss) ∷ Γ) G)
+      → Seq K 𝓛 (‵ (owns (usize ∷ Ts) (n, xs) (us, uss)) ∷ Γ) G
+  number_had t Ts n xs us uss k = fsplit t $ fsplit t $ feq_l t (λ e. flt_l t (λ fits. k e fits))
+
+  -- where places begin, and the number of one of them
+  pub place_had : K → (E : El) (Ts : List RattleType) (base : (Bs E).Denot) (n : ℕ) (xs : Denots Ts) (us vs : List Val) (uss : Valss Ts)
+      → (us ≡ word base.ptr ∷ [] → vs ≡ vint w64 n ∷ [] → n < 2 ^ 64 → Seq K 𝓛 (‵ (owns Ts xs uss) ∷ Γ) G)
+      → Seq K 𝓛 (‵ (owns (Bs E ∷ usize ∷ Ts) (base, (n, xs)) (us, (vs, uss))) ∷ Γ) G
+  place_had t E Ts base n xs us vs uss k =
+      fsplit t $ word_had t base.ptr us (λ e. fsplit t $ fsplit t $ feq_l t (λ e'. flt_l t (λ fits. k e e' fits)))
 
 module _ {M : Type 1} {𝓤 : Ura M} {𝓛 : Logic 𝓤} {K : Type 0} {Γ : List (Item 𝓤)} where
   -- an `ensures` of two facts

@@ -1,23 +1,23 @@
 -- What another time of an arc leaves as it is.
-use Rattle.std.proofs.Common.{ℕ, zero, suc, ◌≡◌, ◌≢◌, ◌+◌, ◌-◌, ◌<◌, ◌≤◌, min, Bool, true, false, ◌||◌, ◌==◌, List, get_or, set, Some, Option, None, refl, sym, ◌∙◌, ap, arith, ⊎_elim, subst, nat_lt}
+use Rattle.std.proofs.Common.{ℕ, zero, suc, ◌≡◌, ◌≢◌, ◌+◌, ◌-◌, ◌<◌, ◌≤◌, min, Bool, true, false, ◌||◌, ◌==◌, get_or, Some, Option, None, refl, sym, ◌∙◌, ap, arith, ⊎_elim, subst, nat_lt}
 use Rattle.std.specs.List.{All}
 use Rattle.std.proofs.lemmas.List.Elements.{All-filter, All-weaker}
 use Rattle.std.proofs.lemmas.Bool.{cases_eq, cases_lt, cases_Bool, eq-eqb, ne_eqb, true≢false}
 use Rattle.std.proofs.lemmas.Option.{slice_get-get_or}
-use Rattle.sota_hist.specs.Time.{least_tick, before}
+use Rattle.sota_hist.specs.Time.{is_closed, least_tick, before}
 use Rattle.sota_network.specs.Network.{Net, IsArc}
-use Rattle.sota_network.specs.Grid.{weighed, plain_sum, best_sum, best_of, choice_of, lo, hi, choice}
+use Rattle.sota_network.specs.Grid.{weighed, plain_sum, best_sum, lo, hi, choice}
 use Rattle.sota_network.specs.Walks.{Walk, IsLeastTime, empty, step}
 use Rattle.sota_network.specs.Reach.{reaches}
 use Rattle.sota_network.specs.declared.network.Arc.{Arc}
 use Rattle.sota_units.specs.Rounding.{ONE, floor_by, ceiling_by}
 use Rattle.sota_kept.proofs.Counting.{ticks-most, ticks-least, ticks-walk, ticks-time}
-use Rattle.sota_kept.proofs.Alike.{Alike, alike-set, best-alike, choice-alike}
-use Rattle.sota_kept.proofs.Changed.{Changed, Far, changed-back, to-tail, from-head, far-old, weighed-before}
+use Rattle.sota_kept.proofs.Alike.{Matches, changed-matches, best-matched, choice-matched}
+use Rattle.sota_kept.proofs.Changed.{Changed, Far, changed-back, to-tail, from-head, same-old, far-old, weighed-before}
 use Rattle.sota_kept.specs.Ticks.{ticks_to, up_to, END_LIMIT}
 use Rattle.sota_kept.specs.Edits.{first_affected, first_affected_by, affected_if, IsUnder}
 use Rattle.sota_kept.specs.Laws.{Lawful}
-use Rattle.sota_kept.proofs.Networks.{arc-valid, hi-at_dest, hi-elsewhere, least-first, least-le, lo-at_dest, lo-elsewhere, reach-walk, walk-reaches, zero-at, paired-open, weighed-same}
+use Rattle.sota_kept.proofs.Networks.{arc-valid, hi-at_dest, hi-elsewhere, lo-at_dest, lo-elsewhere, reach-walk, walk-reaches, zero-at}
 
 -- values of a network, with either rounding
 pub record Values (net : Net) (dest : ℕ) (round : ℕ → ℕ → ℕ) (v : ℕ → ℕ → ℕ) (top : ℕ) : Type 0 where
@@ -42,40 +42,37 @@ module _ (net other : Net) (dest k : ℕ) (a b : Arc) (is : Changed net other k 
         let f : ℕ → ℕ = v a.head in
         let g : ℕ → ℕ = w a.head in
         let old : weighed f t a.time ≡ weighed f t (before s0 a.time) =
-        weighed-before f t s0 a.time (λ m d inside high le. vs.below a.head (t - (get_or a.time m d).0) (late (get_or a.time m d).0 high le)) in
+        weighed-before is.valid.sums f t s0 a.time (λ m d inside high le. vs.below a.head (t - (get_or a.time m d).0) (late (get_or a.time m d).0 high le)) in
         let new : weighed g t b.time ≡ weighed g t (before s0 b.time) =
-        weighed-before g t s0 b.time (λ m d inside high le. ws.below a.head (t - (get_or b.time m d).0) (late' (get_or b.time m d).0 high le)) in
+        weighed-before is.valid.sums g t s0 b.time (λ m d inside high le. ws.below a.head (t - (get_or b.time m d).0) (late' (get_or b.time m d).0 high le)) in
         let positive : All (λ (p : ℕ × ℕ). 0 < p.0) (before s0 a.time) =
-        All-filter (λ (p : ℕ × ℕ). nat_lt p.0 s0) (λ (p : ℕ × ℕ). 0 < p.0) a.time (least-le 0 a.time arc.time) in
+        All-filter (λ (p : ℕ × ℕ). nat_lt p.0 s0) (λ (p : ℕ × ℕ). 0 < p.0) a.time (is.valid.ticks.above 0 a.time arc.time) in
         let middle : weighed f t (before s0 a.time) ≡ weighed g t (before s0 a.time) =
-        weighed-same f g t (before s0 a.time)
+        is.valid.sums.agree f g t (before s0 a.time)
         (All-weaker (λ (p : ℕ × ℕ). 0 < p.0) (λ (p : ℕ × ℕ). p.0 ≤ t → f (t - p.0) ≡ g (t - p.0)) (λ p pos le. less (t - p.0) (let z : t - p.0 < t = omega arith in z)) (before s0 a.time) positive) in
         rw is.heads (old ∙ middle ∙ ap (weighed g t) alike ∙ sym new)
 
     -- the arcs of a node match where smaller budgets agree
     arcs-match : (i t : ℕ) → (i ≡ dest → ⊥) → Far net other dest k a b is s0 i t → ((j u : ℕ) → u < t → Far net other dest k a b is s0 j u → v j u ≡ w j u)
-        → Alike (λ x. plain_sum x v t) (λ x. plain_sum x w t) i net.arcs (set net.arcs k b)
+        → Matches net other (λ x. plain_sum x v t) (λ x. plain_sum x w t) i
     arcs-match i t off far less =
-        alike-set (λ x. plain_sum x v t) (λ x. plain_sum x w t) i k a b net.arcs is.found
-        (record {
-          tail = sym is.tails;
-          worth = λ tail.
-              let leaves : a.tail ≢ dest = λ z. off (sym tail ∙ z) in
-              let stay : Walk net dest i a.tail 0 = subst (λ (j : ℕ). Walk net dest i j 0) (sym tail) empty in
-              let own : (n : ℕ) → Walk net dest a.head dest n → t < s0 + n = λ n walk. omega (arith, far leaves 0 stay n walk) in
-              own-same t own (λ u early. less a.head u early (λ leave n w1 m w2. omega (arith, own m w2)));
-        })
-        (λ f x at apart tail.
+        changed-matches net other k a b is (λ x. plain_sum x v t) (λ x. plain_sum x w t) i
+        (λ tail.
+        let leaves : a.tail ≢ dest = λ z. off (sym tail ∙ z) in
+        let stay : Walk net dest i a.tail 0 = subst (λ (j : ℕ). Walk net dest i j 0) (sym tail) empty in
+        let own : (n : ℕ) → Walk net dest a.head dest n → t < s0 + n = λ n walk. omega (arith, far leaves 0 stay n walk) in
+        own-same t own (λ u early. less a.head u early (λ leave n w1 m w2. omega (arith, own m w2))))
+        (λ f x at tail.
         let arc : IsArc net x = arc-valid net is.valid (suc f) x at in
         let leaves : x.tail ≢ dest = λ z. off (sym tail ∙ z) in
-        weighed-same (v x.head) (w x.head) t x.time
+        is.valid.sums.agree (v x.head) (w x.head) t x.time
         (λ q d inside le.
         let p : ℕ × ℕ = get_or x.time q d in
-        let pos : 0 < p.0 = least-le 0 x.time arc.time q d inside in
-        let first : least_tick x.time ≤ p.0 = least-first 0 x.time arc.time q d inside in
+        let pos : 0 < p.0 = is.valid.ticks.above 0 x.time arc.time q d inside in
+        let first : least_tick x.time ≤ p.0 = is.valid.ticks.least x.time arc.time q d inside in
         less x.head (t - p.0) (omega arith)
         (λ leave n w1 m w2.
-        let longer : Walk net dest i a.tail (least_tick x.time + n) = subst (λ (j : ℕ). Walk net dest j a.tail (least_tick x.time + n)) tail (step {n = n} (suc f) x at leaves (paired-open x.time q p (slice_get-get_or x.time q d inside)) w1) in
+        let longer : Walk net dest i a.tail (least_tick x.time + n) = subst (λ (j : ℕ). Walk net dest j a.tail (least_tick x.time + n)) tail (step {n = n} (suc f) x at leaves (is.valid.ticks.opened x.time q p (slice_get-get_or x.time q d inside)) w1) in
         let limit : t < least_tick x.time + n + (s0 + m) = far leave (least_tick x.time + n) longer m w2 in
         omega arith)))
 
@@ -86,9 +83,8 @@ module _ (net other : Net) (dest k : ℕ) (a b : Arc) (is : Changed net other k 
         (λ (at : i ≡ dest). vs.at_dest i t at ∙ sym (ws.at_dest i t at))
         (λ (off : i ≡ dest → ⊥).
         let bests : best_sum net v i t ≡ best_sum other w i t =
-        best-alike (λ x. plain_sum x v t) (λ x. plain_sum x w t) i net.arcs (set net.arcs k b)
-        (arcs-match i t off far (λ j u early far'. same-below l j u (omega arith) far'))
-        ∙ ap (λ (xs : List Arc). best_of xs (λ x. plain_sum x w t) i) (sym is.arcs) in
+        best-matched net other is.valid is.valid' (λ x. plain_sum x v t) (λ x. plain_sum x w t) i
+        (arcs-match i t off far (λ j u early far'. same-below l j u (omega arith) far')) in
         vs.elsewhere i t off ∙ (rw (bests, is.scale) refl) ∙ sym (ws.elsewhere i t off))
         (cases_eq i dest)
 
@@ -122,9 +118,8 @@ module _ (net other : Net) (dest k : ℕ) (a b : Arc) (is : Changed net other k 
       (λ (at : i ≡ dest). rw (eq-eqb i dest at) refl)
       (λ (off : i ≡ dest → ⊥).
       rw (ne_eqb i dest off)
-      (choice-alike (λ x. plain_sum x (lo net dest) t) (λ x. plain_sum x (lo other dest) t) i net.arcs (set net.arcs k b)
-      (arcs-match floor_by (lo net dest) (lo other dest) ONE (lo-values net is.valid) (lo-values other is.valid') i t off far (λ j u early far'. lo-unchanged j u far'))
-      ∙ ap (λ (xs : List Arc). choice_of xs (λ x. plain_sum x (lo other dest) t) i) (sym is.arcs)))
+      (choice-matched net other is.valid is.valid' (λ x. plain_sum x (lo net dest) t) (λ x. plain_sum x (lo other dest) t) i
+      (arcs-match floor_by (lo net dest) (lo other dest) ONE (lo-values net is.valid) (lo-values other is.valid') i t off far (λ j u early far'. lo-unchanged j u far'))))
       (cases_eq i dest)
 
   -- what is far for the network is far for the other
@@ -224,6 +219,17 @@ module _ (net other : Net) (dest k : ℕ) (a b : Arc) (is : Changed net other k 
   head-back m walk = let old = from-head net other dest k a b is dest m walk in (old.sum, old.walk, old.most)
 
 module _ (net other : Net) (dest k : ℕ) (a b : Arc) (is : Changed net other k a b) where
+  same-back : least_tick a.time ≡ least_tick b.time → is_closed a.time ≡ is_closed b.time → (i j m : ℕ) → Walk other dest i j m → (n : ℕ) × Walk net dest i j n × (n ≤ m)
+  same-back least alike i j m walk = let old = same-old net other dest k a b is i j m least alike walk in (old.sum, old.walk, old.most)
+
+module _ (net other : Net) (dest k : ℕ) (a b : Arc) (is : Changed net other k a b) where
+  -- where the least ticks agree, and the arc is open or closed in both, so do all least times
+  pub same-least : least_tick a.time ≡ least_tick b.time → is_closed a.time ≡ is_closed b.time → (i j : ℕ) (time : Option ℕ) → IsLeastTime net dest i j time → IsLeastTime other dest i j time
+  same-least least alike i j time =
+      least-carried net other dest i j (same-back net other dest k a b is least alike i j)
+      (same-back other net dest k b a (changed-back net other k a b is) (sym least) (sym alike) i j)
+      time
+
   pub tail-least : (i : ℕ) (time : Option ℕ) → IsLeastTime net dest i a.tail time → IsLeastTime other dest i a.tail time
   tail-least i time =
       least-carried net other dest i a.tail (tail-back net other dest k a b is i)

@@ -1,40 +1,27 @@
 -- What is read from the tables once the needs of an ask are met.
-use Rattle.std.proofs.Common.{ℕ, suc, ◌/◌, ◌%◌, List, [], ◌∷◌, ◌≡◌, ◌≢◌, ◌+◌, ◌-◌, ◌*◌, ◌<◌, ◌≤◌, true, false, None, refl, sym, ◌∙◌, arith, ⊎_elim}
+use Rattle.std.proofs.Common.{ℕ, suc, Some, ◌≡◌, ◌≢◌, ◌+◌, ◌-◌, ◌*◌, ◌<◌, ◌≤◌, true, false, None, subst, refl, sym, ◌∙◌, arith, ⊎_elim}
 use Rattle.std.proofs.lemmas.Bool.{cases_lt, cases_Bool, ne_eqb, lt-ltb, le-leb, true≢false}
-use Rattle.std.proofs.Math.Nat.{mul-le-mul_left, div-add-mod, mod-lt}
 use Rattle.sota_units.specs.Rounding.{ceiling_by}
-use Rattle.sota_network.specs.Network.{Net}
-use Rattle.sota_network.specs.Grid.{weighed, plain_sum, best_sum, lo, hi, choice}
+use Rattle.sota_hist.specs.Time.{total}
+use Rattle.sota_network.specs.Network.{Net, arc_at}
+use Rattle.sota_network.specs.Grid.{plain_sum, best_sum, lo, hi, choice}
 use Rattle.sota_units.specs.Limits.{BUDGET_LIMIT}
 use Rattle.sota_network.specs.Walks.{Walk, empty}
 use Rattle.sota_network.specs.Reach.{reaches, in_region}
 use Rattle.sota_network.specs.Region.{need}
-use Rattle.sota_kept.proofs.Bests.{best-le}
+use Rattle.sota_network.specs.declared.network.Arc.{Arc}
 use Rattle.sota_kept.specs.Ticks.{END_LIMIT, least_to}
 use Rattle.sota_kept.specs.NodeTables.{NodeTable, IsSettledAt, IsReadyAt, known_end, choice_at}
 use Rattle.sota_kept.proofs.Counting.{ticks-reach}
 use Rattle.sota_kept.proofs.Preparing.{need-all}
 use Rattle.sota_kept.specs.Laws.{Lawful}
-use Rattle.sota_kept.proofs.Networks.{hi-elsewhere, walk-reaches, weighed-in, weighed-out}
+use Rattle.sota_kept.proofs.Networks.{arc-valid, hi-elsewhere, walk-reaches}
 
--- greater values weigh more
-weighed-le : (v w : ℕ → ℕ) (t : ℕ) → ((u : ℕ) → v u ≤ w u) → (ps : List (ℕ × ℕ)) → weighed v t ps ≤ weighed w t ps
-weighed-le v w t le [] = omega arith
-weighed-le v w t le (p ∷ ps) =
-    let rest : weighed v t ps ≤ weighed w t ps = weighed-le v w t le ps in
-    ⊎_elim
-    (λ (out : t < p.0). rw (weighed-out v t p ps out, weighed-out w t p ps out) rest)
-    (λ (inside : p.0 ≤ t).
-    let one : p.1 * v (t - p.0) ≤ p.1 * w (t - p.0) = mul-le-mul_left p.1 (le (t - p.0)) in
-    rw (weighed-in v t p ps inside, weighed-in w t p ps inside) (omega arith))
-    (cases_lt t p.0)
-
--- a ceiling that is 0 is that of 0
-ceiling-zero : (q x : ℕ) → 1 ≤ q → ceiling_by q x ≡ 0 → x ≡ 0
-ceiling-zero q x positive none =
-    let whole : q * ((x + (q - 1)) / q) + (x + (q - 1)) % q ≡ x + (q - 1) = div-add-mod (x + (q - 1)) q in
-    let rest : (x + (q - 1)) % q < q = mod-lt (x + (q - 1)) (let y : 0 < q = omega arith in y) in
-    let times : q * ((x + (q - 1)) / q) ≡ 0 = rw none (omega arith) in
+-- the values of an arc's sums are in order
+arc-order : (net : Net) → Lawful net → (dest t e : ℕ) (a : Arc) → arc_at net e ≡ Some a → plain_sum a (lo net dest) t ≤ plain_sum a (hi net dest) t
+arc-order net valid dest t e a at =
+    let near : plain_sum a (lo net dest) t ≤ plain_sum a (hi net dest) t + total a.time * 0 =
+    valid.sums.near (lo net dest a.head) (hi net dest a.head) 0 t a.time (arc-valid net valid e a at).time (λ u less. omega (arith, valid.order dest a.head u)) in
     omega arith
 
 choice-none : (net : Net) (dest i t : ℕ) → i ≢ dest → best_sum net (lo net dest) i t ≡ 0 → choice net dest i t ≡ None
@@ -44,11 +31,12 @@ choice-none net dest i t off none = rw (ne_eqb i dest off) (rw none refl)
 -- where the upper value is 0 no arc is chosen
 pub choice-zero : (net : Net) → Lawful net → (dest i t : ℕ) → i ≢ dest → hi net dest i t ≡ 0 → choice net dest i t ≡ None
 choice-zero net valid dest i t off none =
-    let top : best_sum net (hi net dest) i t ≡ 0 =
-    ceiling-zero net.scale (best_sum net (hi net dest) i t) valid.valid.scale (sym (hi-elsewhere net valid dest i t off) ∙ none) in
-    let le : best_sum net (lo net dest) i t ≤ best_sum net (hi net dest) i t =
-    best-le (λ a. plain_sum a (lo net dest) t) (λ a. plain_sum a (hi net dest) t) i net.arcs
-    (λ a. weighed-le (lo net dest a.head) (hi net dest a.head) t (valid.order dest a.head) a.time) in
+    let ceiling : ceiling_by net.scale (best_sum net (hi net dest) i t) ≡ 0 = sym (hi-elsewhere net valid dest i t off) ∙ none in
+    let up : best_sum net (hi net dest) i t ≤ ceiling_by net.scale (best_sum net (hi net dest) i t) * net.scale = valid.rounding.up net.scale (best_sum net (hi net dest) i t) valid.valid.scale in
+    let top : best_sum net (hi net dest) i t ≤ 0 * net.scale = subst (λ (x : ℕ). best_sum net (hi net dest) i t ≤ x * net.scale) ceiling up in
+    let le : best_sum net (lo net dest) i t ≤ best_sum net (hi net dest) i t + 0 =
+    valid.near net (λ a. plain_sum a (lo net dest) t) (λ a. plain_sum a (hi net dest) t) 0 i
+    (λ e a at tail. (e, a, at, tail, (let z : plain_sum a (lo net dest) t ≤ plain_sum a (hi net dest) t + 0 = omega (arith, arc-order net valid dest t e a at) in z))) in
     choice-none net dest i t off (omega arith)
 
 -- below the known end the choice is known as well

@@ -8,29 +8,29 @@ use Rattle.sota_network.specs.Network.{Net, IsArc, arc_at}
 use Rattle.sota_network.specs.Grid.{weighed}
 use Rattle.sota_network.specs.Walks.{Walk, empty, step}
 use Rattle.sota_network.specs.declared.network.Arc.{Arc}
-use Rattle.sota_kept.proofs.Walking.{walk-then}
 use Rattle.sota_kept.specs.Laws.{Lawful}
-use Rattle.sota_kept.proofs.Networks.{arc-valid, weighed-in, weighed-out}
+use Rattle.sota_network.specs.Laws.{SumLaws}
+use Rattle.sota_kept.proofs.Networks.{arc-valid}
 
 -- pairs from a tick on, at which the values are 0, may be left out
-pub weighed-before : (v : ℕ → ℕ) (t s : ℕ) (ps : List (ℕ × ℕ)) → All (λ (p : ℕ × ℕ). s ≤ p.0 → p.0 ≤ t → v (t - p.0) ≡ 0) ps → weighed v t ps ≡ weighed v t (before s ps)
-weighed-before v t s [] none = refl
-weighed-before v t s (p ∷ ps) none =
-    let more : weighed v t ps ≡ weighed v t (before s ps) = weighed-before v t s ps (All-tail (λ (q : ℕ × ℕ). s ≤ q.0 → q.0 ≤ t → v (t - q.0) ≡ 0) p ps none) in
+pub weighed-before : SumLaws → (v : ℕ → ℕ) (t s : ℕ) (ps : List (ℕ × ℕ)) → All (λ (p : ℕ × ℕ). s ≤ p.0 → p.0 ≤ t → v (t - p.0) ≡ 0) ps → weighed v t ps ≡ weighed v t (before s ps)
+weighed-before sums v t s [] none = refl
+weighed-before sums v t s (p ∷ ps) none =
+    let more : weighed v t ps ≡ weighed v t (before s ps) = weighed-before sums v t s ps (All-tail (λ (q : ℕ × ℕ). s ≤ q.0 → q.0 ≤ t → v (t - q.0) ≡ 0) p ps none) in
     ⊎_elim
     (λ (low : p.0 < s).
     rw (lt-ltb p.0 s low)
     (⊎_elim
-    (λ (out : t < p.0). weighed-out v t p ps out ∙ more ∙ sym (weighed-out v t p (before s ps) out))
-    (λ (inside : p.0 ≤ t). weighed-in v t p ps inside ∙ ap (λ (n : ℕ). p.1 * v (t - p.0) + n) more ∙ sym (weighed-in v t p (before s ps) inside))
+    (λ (out : t < p.0). sums.outside v t p ps out ∙ more ∙ sym (sums.outside v t p (before s ps) out))
+    (λ (inside : p.0 ≤ t). sums.inside v t p ps inside ∙ ap (λ (n : ℕ). p.1 * v (t - p.0) + n) more ∙ sym (sums.inside v t p (before s ps) inside))
     (cases_lt t p.0)))
     (λ (high : s ≤ p.0).
     rw (le-ltb p.0 s high)
     (⊎_elim
-    (λ (out : t < p.0). weighed-out v t p ps out ∙ more)
+    (λ (out : t < p.0). sums.outside v t p ps out ∙ more)
     (λ (inside : p.0 ≤ t).
     let here : v (t - p.0) ≡ 0 = All-head (λ (q : ℕ × ℕ). s ≤ q.0 → q.0 ≤ t → v (t - q.0) ≡ 0) p ps none high inside in
-    weighed-in v t p ps inside ∙ (rw here (let z : p.1 * 0 + weighed v t ps ≡ weighed v t ps = omega arith in z)) ∙ more)
+    sums.inside v t p ps inside ∙ (rw here (let z : p.1 * 0 + weighed v t ps ≡ weighed v t ps = omega arith in z)) ∙ more)
     (cases_lt t p.0)))
     (cases_lt p.0 s)
 
@@ -67,7 +67,7 @@ set-same k a b [] found = cc
 set-same zero a b (x ∷ arcs) found = refl
 set-same (suc k) a b (x ∷ arcs) found = set-same k a b arcs found
 
-set-other : (k m : ℕ) (b : Arc) (arcs : List Arc) → (m ≡ k → ⊥) → slice_get (set arcs k b) m ≡ slice_get arcs m
+pub set-other : (k m : ℕ) (b : Arc) (arcs : List Arc) → (m ≡ k → ⊥) → slice_get (set arcs k b) m ≡ slice_get arcs m
 set-other k m b [] apart = refl
 set-other zero zero b (x ∷ arcs) apart = absurd (apart refl)
 set-other zero (suc m) b (x ∷ arcs) apart = refl
@@ -188,7 +188,15 @@ module _ (net other : Net) (dest k : ℕ) (a b : Arc) (is : Changed net other k 
   through-old i j m least opened one =
       let le : one.before_it + least_tick b.time + one.after_it ≤ m = one.most in
       let onward : Walk net dest a.tail j (least_tick a.time + one.after_it) = step {n = one.after_it} (suc k) a is.found one.leaves opened one.from in
-      record { sum = one.before_it + (least_tick a.time + one.after_it); walk = walk-then net dest one.to onward; most = omega arith }
+      record { sum = one.before_it + (least_tick a.time + one.after_it); walk = is.valid.joined dest i a.tail j one.before_it (least_tick a.time + one.after_it) one.to onward; most = omega arith }
+
+  -- where both times have the same least tick, and are open or closed alike, no least time changes
+  pub same-old : (i j m : ℕ) → least_tick a.time ≡ least_tick b.time → is_closed a.time ≡ is_closed b.time → Walk other dest i j m → Old i j m
+  same-old i j m least alike walk =
+      ⊎_elim
+      (λ (one : Old i j m). one)
+      (λ (one : Through i j m). through-old i j m least (alike ∙ one.opened) one)
+      (parts walk)
 
   -- below this budget nothing of node i changes
   abbrev pub Far : ℕ → ℕ → ℕ → Type 0

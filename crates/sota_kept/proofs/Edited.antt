@@ -1,15 +1,14 @@
 -- What an edit leaves as it is.
 use Rattle.std.proofs.Common.{ℕ, zero, suc, ◌≡◌, ◌<◌, ◌≤◌, List, Some, None, Option, set, refl, sym, ◌∙◌, ap, arith, ⊎_elim, subst}
 use Rattle.std.proofs.lemmas.Bool.{cases_eq, eq-eqb}
-use Rattle.sota_hist.specs.Time.{before}
+use Rattle.sota_hist.specs.Time.{before, is_closed, least_tick}
 use Rattle.sota_network.specs.Network.{Net, arc_at, replaced}
-use Rattle.sota_network.specs.Grid.{lo, hi, choice}
+use Rattle.sota_network.specs.Grid.{choice}
 use Rattle.sota_network.specs.Walks.{Walk, IsLeastTime, empty}
-use Rattle.sota_network.specs.Reach.{reaches}
 use Rattle.sota_network.specs.declared.network.Arc.{Arc}
 use Rattle.sota_kept.proofs.Changed.{Changed, Far}
-use Rattle.sota_kept.proofs.Affecting.{lo-unchanged, hi-unchanged, choice-unchanged, reach-unchanged, first_affected-far, under-far, tail-least, head-least}
-use Rattle.sota_kept.specs.Edits.{first_affected, first_affected_by, IsUnder, IsEdit}
+use Rattle.sota_kept.proofs.Affecting.{lo-unchanged, hi-unchanged, choice-unchanged, reach-unchanged, first_affected-far, under-far, tail-least, head-least, same-least}
+use Rattle.sota_kept.specs.Edits.{first_affected, first_affected_by, IsUnder, IsEdit, SameAt}
 use Rattle.sota_kept.specs.Laws.{Lawful}
 use Rattle.sota_kept.proofs.Networks.{NetworkLaws, hi-at_dest, lo-at_dest, replaced-at, timed, walk-reaches}
 
@@ -26,13 +25,6 @@ edit-changed laws net k a s0 time is =
       tails = refl;
       heads = refl;
     }
-
--- what stands at a node and a budget is the same in both networks
-pub record SameAt (net other : Net) (dest i t : ℕ) : Type 0 where
-  pub lower : lo other dest i t ≡ lo net dest i t
-  pub upper : hi other dest i t ≡ hi net dest i t
-  pub choice : choice other dest i t ≡ choice net dest i t
-  pub reach : reaches other dest dest i t ≡ reaches net dest dest i t
 
 choice-there : (net : Net) (dest i t : ℕ) → i ≡ dest → choice net dest i t ≡ None
 unfolding choice
@@ -88,3 +80,10 @@ edit-to laws net dest (suc k) a s0 time is i least before = tail-least net (repl
 pub edit-onward : NetworkLaws → (net : Net) (dest number : ℕ) (a : Arc) (s0 : ℕ) (time : List (ℕ × ℕ)) → IsEdit net number a s0 time → (least : Option ℕ) → IsLeastTime net dest a.head dest least → IsLeastTime (replaced net number time) dest a.head dest least
 edit-onward laws net dest zero a s0 time is least before = absurd (let none : arc_at net zero ≡ Some a = is.found in cc)
 edit-onward laws net dest (suc k) a s0 time is least before = head-least net (replaced net (suc k) time) dest k a (timed a time) (edit-changed laws net k a s0 time is) least before
+
+-- where the arc's least tick stays, and it stays open or closed, so do all least times
+pub edit-tick : NetworkLaws → (net : Net) (dest number : ℕ) (a : Arc) (s0 : ℕ) (time : List (ℕ × ℕ)) → IsEdit net number a s0 time → (i j : ℕ) → least_tick time ≡ least_tick a.time → is_closed time ≡ is_closed a.time → (least : Option ℕ)
+    → IsLeastTime net dest i j least → IsLeastTime (replaced net number time) dest i j least
+edit-tick laws net dest zero a s0 time is i j tick closed least before = absurd (let none : arc_at net zero ≡ Some a = is.found in cc)
+edit-tick laws net dest (suc k) a s0 time is i j tick closed least before =
+    same-least net (replaced net (suc k) time) dest k a (timed a time) (edit-changed laws net k a s0 time is) (sym tick) (sym closed) i j least before

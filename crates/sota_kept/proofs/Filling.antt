@@ -10,7 +10,6 @@ use Rattle.sota_network.specs.Reads.{Reads}
 use Rattle.sota_kept.specs.Ticks.{END_LIMIT, least_to}
 use Rattle.sota_kept.specs.NodeTables.{NodeTable, Entry, IsNodeTable, IsSettledAt, IsReadyAt, AreReady, IsExtent, known_end, lower_of, upper_of, choice_at, lower_in, upper_in, entry_from, pushed_table, push_at, filled_tables}
 use Rattle.sota_kept.specs.Asks.{IsGridEntry}
-use Rattle.sota_kept.proofs.Walking.{reads-left, reads-open}
 use Rattle.sota_kept.specs.Laws.{Lawful}
 use Rattle.sota_kept.proofs.Networks.{arc-valid, hi-at_dest, lo-at_dest}
 
@@ -171,9 +170,9 @@ module _ (net : Net) (valid : Lawful net) (dest i : ℕ) where
       ⊎_elim
       (λ (at : j ≡ dest). inl at)
       (λ (apart : j ≡ dest → ⊥).
-      let far : to ≤ known_end (tables reads.arc.head) + least_tick reads.arc.time = extent reads.number reads.arc reads.is_arc reads.tail (reads-open net valid i t j u reads) (λ z. apart (sym reads.head ∙ z)) in
+      let far : to ≤ known_end (tables reads.arc.head) + least_tick reads.arc.time = extent reads.number reads.arc reads.is_arc reads.tail (valid.left i t j u reads).0 (λ z. apart (sym reads.head ∙ z)) in
       let far' : to ≤ known_end (tables j) + least_tick reads.arc.time = subst (λ (x : ℕ). to ≤ known_end (tables x) + least_tick reads.arc.time) reads.head far in
-      let left : u + least_tick reads.arc.time ≤ t = reads-left net valid i t j u reads in
+      let left : u + least_tick reads.arc.time ≤ t = (valid.left i t j u reads).1 in
       inr (omega arith))
       (cases_eq j dest)
 

@@ -1,7 +1,5 @@
 pub mod Networks
-pub mod Bests
 pub mod Alike
-pub mod Walking
 pub mod Counting
 pub mod Changed
 pub mod Affecting
@@ -13,4 +11,3 @@ pub mod Answering
 pub mod Stating
 pub mod Holding
 pub mod Ending
-pub mod Choosing

@@ -6,10 +6,10 @@ use Rattle.sota_network.specs.Network.{Net, replaced}
 use Rattle.sota_network.specs.Grid.{lo, hi, choice}
 use Rattle.sota_network.specs.declared.network.Arc.{Arc}
 use Rattle.sota_kept.specs.Ticks.{END_LIMIT, least_to}
-use Rattle.sota_kept.specs.Edits.{first_affected, IsEdit}
+use Rattle.sota_kept.specs.Edits.{first_affected, IsEdit, SameAt}
 use Rattle.sota_kept.specs.NodeTables.{NodeTable, IsKeptAt, IsSettledAt, lower_of, upper_of, choice_at, emptied_table, rebased_table, cut_to}
 use Rattle.sota_kept.proofs.Counting.{ticks-most, ticks-least, ticks-reach}
-use Rattle.sota_kept.proofs.Edited.{SameAt, edit-same, edit-valid}
+use Rattle.sota_kept.proofs.Edited.{edit-same, edit-valid}
 use Rattle.sota_kept.specs.Laws.{Lawful}
 use Rattle.sota_kept.proofs.Networks.{NetworkLaws, zero-at}
 

@@ -3,6 +3,8 @@ use Rattle.std.specs.Prelude.{ℕ, ◌≡◌, ◌+◌, ◌<◌, ◌≤◌, ◌==
 use Rattle.std.specs.Prelude.{Option, None, Some}
 use Rattle.sota_hist.specs.Time.{IsTime, total, before}
 use Rattle.sota_network.specs.Network.{Net, IsNet, arc_at}
+use Rattle.sota_network.specs.Grid.{lo, hi, choice}
+use Rattle.sota_network.specs.Reach.{reaches}
 use Rattle.sota_network.specs.declared.network.Arc.{Arc}
 use Rattle.sota_kept.specs.Ticks.{END_LIMIT, ticks_to}
 
@@ -43,3 +45,10 @@ pub record IsEdit (net : Net) (number : ℕ) (arc : Arc) (first : ℕ) (time : L
   pub rises : IsTime time
   pub sums : total time ≤ net.scale
   pub same : before first arc.time ≡ before first time
+
+-- what stands at a node and a budget is the same in both networks
+pub record SameAt (net other : Net) (dest i t : ℕ) : Type 0 where
+  pub lower : lo other dest i t ≡ lo net dest i t
+  pub upper : hi other dest i t ≡ hi net dest i t
+  pub choice : choice other dest i t ≡ choice net dest i t
+  pub reach : reaches other dest dest i t ≡ reaches net dest dest i t

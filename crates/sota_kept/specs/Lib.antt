@@ -4,5 +4,4 @@ pub mod NodeTables
 pub mod States
 pub mod TableLists
 pub mod Asks
-pub mod Worths
 pub mod Laws

@@ -1,21 +1,22 @@
 // What is true of the definitions themselves. The functions do nothing: their contracts are the
 // theorems.
-ghost use Rattle.std.specs.Prelude.{ℕ, ◌≡◌, ◌<◌, ◌≤◌, nat_le, List, [], ◌∷◌, Option, None, Some};
+ghost use Rattle.std.specs.Prelude.{ℕ, ◌≡◌, ◌<◌, ◌≤◌, nat_le, List, [], ◌∷◌, Option, Some};
+ghost use Rattle.sota_hist.specs.Time.{is_closed, least_tick};
 ghost use Rattle.sota_network.specs.Network.{Net, IsNet, arc_at, replaced};
 ghost use Rattle.sota_network.specs.declared.network.Arc.{Arc};
-ghost use Rattle.sota_network.specs.Grid.{lo, hi, choice, best_of, choice_of};
 ghost use Rattle.sota_network.specs.Walks.{IsLeastTime};
 ghost use Rattle.sota_network.specs.Reach.{reaches};
 ghost use Rattle.sota_network.specs.Examples.{triangle, barrier};
 ghost use Rattle.sota_kept.specs.Laws.{Lawful, ListLaws};
-ghost use Rattle.sota_kept.specs.Worths.{IsFirstBest};
 ghost use Rattle.sota_kept.specs.Ticks.{END_LIMIT, ticks_to, least_to, up_to};
 ghost use Rattle.sota_kept.specs.States.{first_state, after_ask, after_edit, missing};
-ghost use Rattle.sota_kept.specs.Edits.{first_affected, first_affected_by, IsUnder, IsEdit};
+ghost use Rattle.sota_kept.specs.Edits.{first_affected, first_affected_by, IsUnder};
+ghost use Rattle.sota_kept.specs.Edits.{IsEdit, SameAt};
 
 use sota_network::laws::{
-    arcs_by_number, edits_keep_networks, entries_of_reads, grid_encloses, grid_recurs,
-    lists_by_number, reaches_by_walks, region_by_least_times, region_closes,
+    arcs_by_number, choices_by_worth, edits_keep_networks, entries_of_reads, grid_encloses,
+    grid_recurs, lists_by_number, reaches_by_walks, region_by_least_times, region_closes,
+    sums_and_scores,
 };
 
 /// The laws of networks that are used here.
@@ -23,6 +24,7 @@ pub(crate) fn network_laws()
     ensures { (net : Net) → IsNet net → Lawful net }
 {
     arcs_by_number();
+    choices_by_worth();
     edits_keep_networks();
     entries_of_reads();
     grid_encloses();
@@ -30,6 +32,7 @@ pub(crate) fn network_laws()
     reaches_by_walks();
     region_by_least_times();
     region_closes();
+    sums_and_scores();
 }
 
 /// The laws of lists by number that are used here.
@@ -38,17 +41,6 @@ pub(crate) fn list_laws()
 {
     lists_by_number();
 }
-
-/// The greatest worth and the choice of a node, by what a loop over its arcs has found: no arc with
-/// a positive worth, or the first of those with the greatest.
-pub fn choices_by_worth()
-    ensures none { (net : Net) (worth : Arc → ℕ) (i : ℕ)
-        → ((e : ℕ) (arc : Arc) → arc_at net e ≡ Some arc → arc.tail ≡ i → worth arc ≡ 0)
-        → (best_of net.arcs worth i ≡ 0) × (choice_of net.arcs worth i ≡ None) }
-    ensures some { (net : Net) (worth : Arc → ℕ) (i e : ℕ) (arc : Arc)
-        → IsFirstBest net worth i e arc
-        → (best_of net.arcs worth i ≡ worth arc) × (choice_of net.arcs worth i ≡ Some e) }
-{}
 
 /// The first budget at which a node is reached is its least time.
 pub fn least_ticks()
@@ -63,28 +55,14 @@ pub fn least_ticks()
 }
 
 /// No entry below the first affected budget of its node changes when the time of an arc is
-/// replaced. The times that make it up are those of the new network as well.
+/// replaced. The times that make it up are those of the new network as well, and so are all least
+/// times where the arc's least tick stays, and it stays open or closed.
 pub fn edits_affect()
-    ensures lower { (net : Net) (dest number first i t : ℕ) (arc : Arc) (time : List (ℕ × ℕ))
+    ensures entries { (net : Net) (dest number first i t : ℕ) (arc : Arc) (time : List (ℕ × ℕ))
         (to onward : Option ℕ) → IsEdit net number arc first time
         → IsLeastTime net dest i arc.tail to → IsLeastTime net dest arc.head dest onward
         → IsUnder t (first_affected_by dest arc first i to onward)
-        → lo (replaced net number time) dest i t ≡ lo net dest i t }
-    ensures upper { (net : Net) (dest number first i t : ℕ) (arc : Arc) (time : List (ℕ × ℕ))
-        (to onward : Option ℕ) → IsEdit net number arc first time
-        → IsLeastTime net dest i arc.tail to → IsLeastTime net dest arc.head dest onward
-        → IsUnder t (first_affected_by dest arc first i to onward)
-        → hi (replaced net number time) dest i t ≡ hi net dest i t }
-    ensures choice { (net : Net) (dest number first i t : ℕ) (arc : Arc) (time : List (ℕ × ℕ))
-        (to onward : Option ℕ) → IsEdit net number arc first time
-        → IsLeastTime net dest i arc.tail to → IsLeastTime net dest arc.head dest onward
-        → IsUnder t (first_affected_by dest arc first i to onward)
-        → choice (replaced net number time) dest i t ≡ choice net dest i t }
-    ensures reach { (net : Net) (dest number first i t : ℕ) (arc : Arc) (time : List (ℕ × ℕ))
-        (to onward : Option ℕ) → IsEdit net number arc first time
-        → IsLeastTime net dest i arc.tail to → IsLeastTime net dest arc.head dest onward
-        → IsUnder t (first_affected_by dest arc first i to onward)
-        → reaches (replaced net number time) dest dest i t ≡ reaches net dest dest i t }
+        → SameAt net (replaced net number time) dest i t }
     ensures to_tail { (net : Net) (dest number first i : ℕ) (arc : Arc) (time : List (ℕ × ℕ))
         (to : Option ℕ) → IsEdit net number arc first time → IsLeastTime net dest i arc.tail to
         → IsLeastTime (replaced net number time) dest i arc.tail to }
@@ -92,6 +70,11 @@ pub fn edits_affect()
         (onward : Option ℕ) → IsEdit net number arc first time
         → IsLeastTime net dest arc.head dest onward
         → IsLeastTime (replaced net number time) dest arc.head dest onward }
+    ensures same_tick { (net : Net) (dest number first i j : ℕ) (arc : Arc) (time : List (ℕ × ℕ))
+        (least : Option ℕ) → IsEdit net number arc first time
+        → least_tick time ≡ least_tick arc.time → is_closed time ≡ is_closed arc.time
+        → IsLeastTime net dest i j least
+        → IsLeastTime (replaced net number time) dest i j least }
     ensures up_to_limit { (net : Net) (dest first i : ℕ) (arc : Arc) (to onward : Option ℕ)
         → IsNet net → IsLeastTime net dest i arc.tail to
         → IsLeastTime net dest arc.head dest onward

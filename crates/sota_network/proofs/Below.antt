@@ -1,4 +1,4 @@
-use Rattle.std.proofs.Common.{ℕ, zero, suc, true, false, ◌≡◌, ◌≢◌, ◌+◌, ◌-◌, ◌<◌, ◌≤◌, List, [], ◌∷◌, get_or, Some, refl, sym, ◌∙◌, arith, ⊎_elim, subst}
+use Rattle.std.proofs.Common.{ℕ, zero, suc, true, false, ◌≡◌, ◌≢◌, ◌+◌, ◌-◌, ◌<◌, ◌≤◌, List, [], ◌∷◌, get_or, slice_get, Some, refl, sym, ◌∙◌, arith, ⊎_elim, subst}
 use Rattle.std.specs.List.{All}
 use Rattle.std.proofs.lemmas.List.Elements.{All-head, All-tail}
 use Rattle.std.proofs.lemmas.Bool.{cases_Bool, cases_eq, cases_lt}
@@ -28,6 +28,11 @@ least-first floor (p ∷ ps) r zero d h = omega arith
 least-first floor (p ∷ ps) r (suc k) d h =
     let more : p.0 < (get_or ps k d).0 = least-le p.0 ps r.2 k d (omega arith) in
     omega arith
+
+-- what has a pair is open
+pub paired-open : (ps : List (ℕ × ℕ)) (k : ℕ) (p : ℕ × ℕ) → slice_get ps k ≡ Some p → is_closed ps ≡ false
+paired-open [] k p is = cc
+paired-open (q ∷ ps) k p is = refl
 
 -- values that are 0 at what each pair leaves make the sum 0
 weighed-zero : (v : ℕ → ℕ) (t : ℕ) (ps : List (ℕ × ℕ)) → All (λ (p : ℕ × ℕ). p.0 ≤ t → v (t - p.0) ≡ 0) ps → weighed v t ps ≡ 0

@@ -6,7 +6,7 @@ use Rattle.sota_network.specs.Network.{Net, arc_at}
 use Rattle.sota_network.specs.Numbers.{first_number}
 use Rattle.sota_network.specs.Grid.{best_of, choice_of, IsFirstBest}
 use Rattle.sota_network.specs.declared.network.Arc.{Arc}
-use Rattle.sota_network.proofs.Best.{best-attained, first-finds}
+use Rattle.sota_network.proofs.Best.{best-attained, best-has_number, first-finds}
 
 -- the number e, counted from n, is that of the first item that passes
 record IsFirst (test : Arc → Bool) (n e : ℕ) (arcs : List Arc) : Type 0 where
@@ -94,3 +94,27 @@ module _ (net : Net) (worth : Arc → ℕ) (i : ℕ) where
         greatest = most;
         first = λ k other is tail same. omega (arith, number, first-place first.place first.least k other is tail (same ∙ most));
       }
+
+  -- the first of the best is chosen
+  pub first-chosen : (e : ℕ) → IsFirstBest net worth i e → choice_of net.arcs worth i ≡ Some e
+  first-chosen e is =
+      let some = chosen-some (omega (arith, is.positive, is.greatest)) in
+      let other : IsFirstBest net worth i some.0 = chosen-first some.0 some.1 in
+      let up : e ≤ some.0 = is.first some.0 other.arc other.number other.tail (other.greatest ∙ sym is.greatest) in
+      let down : some.0 ≤ e = other.first e is.arc is.number is.tail (is.greatest ∙ sym other.greatest) in
+      let same : some.0 ≡ e = omega arith in
+      some.1 ∙ ap Some same
+
+-- for each arc that leaves the node another, of another network, that is worth less by at most g
+pub best-near : (net other : Net) (P R : Arc → ℕ) (g i : ℕ)
+    → ((e : ℕ) (a : Arc) → arc_at net e ≡ Some a → a.tail ≡ i → (k : ℕ) × (b : Arc) × (arc_at other k ≡ Some b) × (b.tail ≡ i) × (P a ≤ R b + g))
+    → best_of net.arcs P i ≤ best_of other.arcs R i + g
+best-near net other P R g i near =
+    ⊎_elim
+    (λ (positive : 0 < best_of net.arcs P i).
+    let found = best-attained P i net.arcs positive in
+    let there = near (suc found.0) found.1 found.2 found.3 in
+    let most : R there.1 ≤ best_of other.arcs R i = best-has_number other R i there.0 there.1 there.2 there.3 in
+    omega (arith, found.4, there.4))
+    (λ (nothing : best_of net.arcs P i ≤ 0). omega arith)
+    (cases_lt 0 (best_of net.arcs P i))

@@ -3,7 +3,7 @@
 use Rattle.std.proofs.Common.{ℕ, zero, suc, ◌≡◌, ◌+◌, ◌-◌, ◌*◌, ◌/◌, ◌%◌, ◌<◌, ◌≤◌, Option, arith, ⊎_elim}
 use Rattle.std.proofs.lemmas.List.Elements.{All-weaker}
 use Rattle.std.proofs.lemmas.Bool.{cases_eq, cases_lt}
-use Rattle.std.proofs.Math.Nat.{mul-le-mul_right, div-add-mod, mod-lt}
+use Rattle.std.proofs.Math.Nat.{mul-le-mul_right, div-add-mod, div-mul-le_self, mod-lt}
 use Rattle.sota_hist.specs.Time.{total}
 use Rattle.sota_network.specs.Network.{Net, IsNet, IsArc}
 use Rattle.sota_network.specs.Grid.{plain_sum, best_sum, lo, hi}
@@ -43,6 +43,12 @@ pub floor-le-ceiling : (q x y : ℕ) → 1 ≤ q → y ≤ x → floor_by q y �
 floor-le-ceiling q x y pos h =
     let next : x + (q - 1) < ((x + (q - 1)) / q + 1) * q = below-next q (x + (q - 1)) pos in
     quotient-le q y ((x + (q - 1)) / q) pos (omega arith)
+
+pub floor-down : (q x : ℕ) → floor_by q x * q ≤ x
+floor-down q x = div-mul-le_self x q
+
+pub floor-le : (q x m : ℕ) → 1 ≤ q → x ≤ q * m → floor_by q x ≤ m
+floor-le q x m pos h = quotient-le q x m pos (omega arith)
 
 pub ceiling-le : (q x m : ℕ) → 1 ≤ q → x ≤ q * m → ceiling_by q x ≤ m
 ceiling-le q x m pos h = quotient-le q (x + (q - 1)) m pos (omega arith)

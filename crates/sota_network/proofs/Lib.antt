@@ -20,3 +20,4 @@ pub mod Cells
 pub mod Reached
 pub mod Walking
 pub mod Reading
+pub mod Rising

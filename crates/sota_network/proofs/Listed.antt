@@ -68,3 +68,10 @@ pub All-listed : {X : Type 0} (P : X → Type 0) (f : ℕ → X) (n : ℕ) → (
 All-listed P f n holds k d h =
     let within : k < n = omega (arith, length-listed f n) in
     subst P (sym (get_or-listed f n k d within)) (holds (suc k))
+
+-- a list by its items
+pub items-listed : {X : Type 0} (xs : List X) (f : ℕ → X) (n : ℕ) (d : X) → length xs ≡ n → ((i : ℕ) → 1 ≤ i → i ≤ n → get_or xs (i - 1) d ≡ f i) → xs ≡ listed f n
+items-listed xs f n d long each =
+    listed-from xs f n d long (λ k less.
+    let at : suc k - 1 ≡ k = omega arith in
+    subst (λ (j : ℕ). get_or xs j d ≡ f (suc k)) at (each (suc k) (omega arith) (omega arith)))

@@ -7,6 +7,7 @@ use Rattle.sota_hist.specs.Time.{RisesFrom}
 use Rattle.sota_network.specs.Network.{Net, IsNet, IsArc, arc_at}
 use Rattle.sota_network.specs.Grid.{weighed, plain_sum, best_sum, lo, hi}
 use Rattle.sota_network.specs.Trees.{Tree, Trees, stop, go, no_trees, tree_then, children, Fits, AllFit, score, scores}
+use Rattle.sota_network.specs.Sound.{Covers}
 use Rattle.sota_network.specs.declared.network.Arc.{Arc}
 use Rattle.sota_units.specs.Rounding.{ONE, floor_by, ceiling_by}
 use Rattle.sota_network.proofs.Sums.{weighed-in, weighed-out}
@@ -87,44 +88,63 @@ scores-end net dest j t no_trees = refl
 scores-end net dest j t (tree_then child rest) = refl
 
 -- from the sum over the pairs to the value of the node
-pub close-up : (w q s C b h T : ℕ) → 1 ≤ q → w * s * q ≤ C * T → C ≤ b → b ≤ h * q → w * s ≤ h * T
-close-up w q s C b h T pos sum le up =
-    let one : C * T ≤ (h * q) * T = mul-le-mul_right T (let y : C ≤ h * q = omega arith in y) in
+pub close-up : (w q s C h T : ℕ) → 1 ≤ q → w * s * q ≤ C * T → C ≤ h * q → w * s ≤ h * T
+close-up w q s C h T pos sum up =
+    let one : C * T ≤ (h * q) * T = mul-le-mul_right T up in
     cancel q (w * s) (h * T) pos (omega arith)
 
-module _ (net : Net) (valid : IsNet net) (dest : ℕ) where
+module _ (net : Net) (valid : IsNet net) (dest : ℕ) (v : ℕ → ℕ → ℕ) (covers : Covers net dest v) where
+  -- who has arrived has one whole
+  arrived : (i t : ℕ) (tree : Tree) → i ≡ dest → ONE * score net dest i t tree ≤ v i t * net.scale ^ t
+  arrived i t tree at =
+      let whole : ONE * net.scale ^ t ≤ v dest t * net.scale ^ t = mul-le-mul_right (net.scale ^ t) (covers.at_dest t) in
+      rw (score-at_dest net dest i t tree at, at) whole
+
   mutual
-    -- every tree scores at most the upper value
-    pub upper : (tree : Tree) (i t : ℕ) → Fits net i tree → ONE * score net dest i t tree ≤ hi net dest i t * net.scale ^ t
-    upper stop i t fits =
+    -- every tree scores at most the value
+    pub covered : (tree : Tree) (i t : ℕ) → Fits net i tree → ONE * score net dest i t tree ≤ v i t * net.scale ^ t
+    covered stop i t fits =
         ⊎_elim
-        (λ at. rw (score-at_dest net dest i t stop at, hi-at_dest net valid dest i t at) (omega arith))
+        (λ at. arrived i t stop at)
         (λ off. rw (score-stop net dest i t off) (omega arith))
         (cases_eq i dest)
-    upper (go e trees) i t fits =
+    covered (go e trees) i t fits =
         ⊎_elim
-        (λ at. rw (score-at_dest net dest i t (go e trees) at, hi-at_dest net valid dest i t at) (omega arith))
+        (λ at. arrived i t (go e trees) at)
         (λ off.
         let a : Arc = fits.0 in
         let is : IsArc net a = arc-valid net valid e a fits.1 in
-        let sum : ONE * scores net dest a.head t a.time trees * net.scale ≤ weighed (hi net dest a.head) t a.time * net.scale ^ t = uppers trees a.time a.head t 0 fits.3 is.time in
-        let has : plain_sum a (hi net dest) t ≤ best_sum net (hi net dest) i t = best-has_number net (λ b. plain_sum b (hi net dest) t) i e a fits.1 fits.2 in
-        rw (score-go net dest i t e a trees off fits.1, hi-elsewhere net valid dest i t off)
-        (close-up ONE net.scale (scores net dest a.head t a.time trees) (plain_sum a (hi net dest) t) (best_sum net (hi net dest) i t) _ (net.scale ^ t) valid.scale sum has (ceiling-up net.scale _ valid.scale)))
+        let sum : ONE * scores net dest a.head t a.time trees * net.scale ≤ weighed (v a.head) t a.time * net.scale ^ t = all-covered trees a.time a.head t 0 fits.3 is.time in
+        rw (score-go net dest i t e a trees off fits.1)
+        (close-up ONE net.scale (scores net dest a.head t a.time trees) (plain_sum a v t) _ (net.scale ^ t) valid.scale sum (covers.elsewhere i t e a off fits.1 fits.2)))
         (cases_eq i dest)
 
-    pub uppers : (trees : Trees) (ps : List (ℕ × ℕ)) (j t floor : ℕ) → AllFit net j ps trees → RisesFrom floor ps
-        → ONE * scores net dest j t ps trees * net.scale ≤ weighed (hi net dest j) t ps * net.scale ^ t
-    uppers no_trees [] j t floor fits r = rw scores-end (omega arith)
-    uppers no_trees (p ∷ ps) j t floor fits r = absurd fits
-    uppers (tree_then child rest) [] j t floor fits r = absurd fits
-    uppers (tree_then child rest) (p ∷ ps) j t floor fits r =
-        let more : ONE * scores net dest j t ps rest * net.scale ≤ weighed (hi net dest j) t ps * net.scale ^ t = uppers rest ps j t p.0 fits.1 r.2 in
+    all-covered : (trees : Trees) (ps : List (ℕ × ℕ)) (j t floor : ℕ) → AllFit net j ps trees → RisesFrom floor ps
+        → ONE * scores net dest j t ps trees * net.scale ≤ weighed (v j) t ps * net.scale ^ t
+    all-covered no_trees [] j t floor fits r = rw scores-end (omega arith)
+    all-covered no_trees (p ∷ ps) j t floor fits r = absurd fits
+    all-covered (tree_then child rest) [] j t floor fits r = absurd fits
+    all-covered (tree_then child rest) (p ∷ ps) j t floor fits r =
+        let more : ONE * scores net dest j t ps rest * net.scale ≤ weighed (v j) t ps * net.scale ^ t = all-covered rest ps j t p.0 fits.1 r.2 in
         ⊎_elim
-        (λ out. rw (scores-out net dest j t p ps child rest out, weighed-out (hi net dest j) t p ps out) more)
+        (λ out. rw (scores-out net dest j t p ps child rest out, weighed-out (v j) t p ps out) more)
         (λ inside.
-        let here : ONE * score net dest j (t - p.0) child ≤ hi net dest j (t - p.0) * net.scale ^ (t - p.0) = upper child j (t - p.0) fits.0 in
+        let here : ONE * score net dest j (t - p.0) child ≤ v j (t - p.0) * net.scale ^ (t - p.0) = covered child j (t - p.0) fits.0 in
         let parts : net.scale ^ t ≡ net.scale ^ (p.0 - 1) * net.scale * net.scale ^ (t - p.0) = power-parts net.scale p.0 t (let y : 1 ≤ p.0 = omega arith in y) inside in
-        rw (scores-in net dest j t p ps child rest inside, weighed-in (hi net dest j) t p ps inside)
+        rw (scores-in net dest j t p ps child rest inside, weighed-in (v j) t p ps inside)
         (step-up ONE p.1 net.scale _ _ _ _ _ _ _ parts here more))
         (cases_lt t p.0)
+
+module _ (net : Net) (valid : IsNet net) (dest : ℕ) where
+  -- no arc exceeds the upper values
+  grid-covers : Covers net dest (hi net dest)
+  grid-covers = record {
+    at_dest = λ t. omega (arith, hi-at_dest net valid dest dest t refl);
+    elsewhere = λ i t e a off is tail.
+        let has : plain_sum a (hi net dest) t ≤ best_sum net (hi net dest) i t = best-has_number net (λ b. plain_sum b (hi net dest) t) i e a is tail in
+        rw (hi-elsewhere net valid dest i t off) (omega (arith, has, ceiling-up net.scale (best_sum net (hi net dest) i t) valid.scale));
+  }
+
+  -- every tree scores at most the upper value
+  pub upper : (tree : Tree) (i t : ℕ) → Fits net i tree → ONE * score net dest i t tree ≤ hi net dest i t * net.scale ^ t
+  upper tree i t fits = covered net valid dest (hi net dest) grid-covers tree i t fits

@@ -14,7 +14,7 @@ use Rattle.sota_network.proofs.Best.{best-agree, choice-agree}
 use Rattle.sota_network.proofs.Outward.{lo-elsewhere, hi-elsewhere}
 
 -- values that agree at what each pair leaves
-weighed-same : (v w : ℕ → ℕ) (t : ℕ) (ps : List (ℕ × ℕ)) → All (λ (p : ℕ × ℕ). p.0 ≤ t → v (t - p.0) ≡ w (t - p.0)) ps → weighed v t ps ≡ weighed w t ps
+pub weighed-same : (v w : ℕ → ℕ) (t : ℕ) (ps : List (ℕ × ℕ)) → All (λ (p : ℕ × ℕ). p.0 ≤ t → v (t - p.0) ≡ w (t - p.0)) ps → weighed v t ps ≡ weighed w t ps
 weighed-same v w t [] agree = refl
 weighed-same v w t (p ∷ ps) agree =
     let more : weighed v t ps ≡ weighed w t ps = weighed-same v w t ps (All-tail (λ (q : ℕ × ℕ). q.0 ≤ t → v (t - q.0) ≡ w (t - q.0)) p ps agree) in

@@ -1,5 +1,5 @@
 -- Walks put together, and the closure of a region.
-use Rattle.std.proofs.Common.{ℕ, List, [], ◌∷◌, slice_get, Some, ◌≡◌, ◌≢◌, ◌+◌, ◌-◌, ◌<◌, ◌≤◌, ◌⊎◌, inl, inr, true, false, not, ◌&&◌, ◌==◌, nat_le, refl, sym, ◌∙◌, arith, ⊎_elim, subst}
+use Rattle.std.proofs.Common.{ℕ, ◌≡◌, ◌≢◌, ◌+◌, ◌-◌, ◌<◌, ◌≤◌, ◌⊎◌, inl, inr, true, false, not, ◌&&◌, ◌==◌, nat_le, refl, sym, ◌∙◌, arith, ⊎_elim, subst}
 use Rattle.std.proofs.lemmas.Bool.{cases_eq, cases_Bool, eqb-false, ne_eqb, le-leb, leb-true, and_parts, not-true}
 use Rattle.std.proofs.lemmas.Option.{slice_get_within, get_or_from_slice_get}
 use Rattle.sota_hist.specs.Time.{is_closed, least_tick}
@@ -7,7 +7,7 @@ use Rattle.sota_network.specs.Network.{Net, IsNet, IsArc}
 use Rattle.sota_network.specs.Walks.{Walk, empty, step}
 use Rattle.sota_network.specs.Reach.{reaches, in_region}
 use Rattle.sota_network.proofs.Recursion.{arc-valid}
-use Rattle.sota_network.proofs.Below.{least-first, least-le}
+use Rattle.sota_network.proofs.Below.{least-first, least-le, paired-open}
 use Rattle.sota_network.proofs.Reaching.{reach-walk, walk-reaches}
 use Rattle.sota_network.specs.Reads.{Reads}
 
@@ -18,14 +18,9 @@ walk-then net dest {i} {j} {k} {m = m} (step {n = n} e arc number leaves passabl
     subst (λ (p : ℕ). Walk net dest arc.tail k p) (let z : least_tick arc.time + (n + m) ≡ least_tick arc.time + n + m = omega arith in z)
     (step {n = n + m} e arc number leaves passable (walk-then net dest rest second))
 
--- what has a pair is open
-paired : (ps : List (ℕ × ℕ)) (k : ℕ) (p : ℕ × ℕ) → slice_get ps k ≡ Some p → is_closed ps ≡ false
-paired [] k p is = cc
-paired (q ∷ ps) k p is = refl
-
 module _ (net : Net) (valid : IsNet net) (i t j u : ℕ) (reads : Reads net i t j u) where
-  reads-open : is_closed reads.arc.time ≡ false
-  reads-open = paired reads.arc.time reads.index reads.pair reads.is_pair
+  pub reads-open : is_closed reads.arc.time ≡ false
+  reads-open = paired-open reads.arc.time reads.index reads.pair reads.is_pair
 
   pub reads-first : least_tick reads.arc.time ≤ reads.pair.0
   reads-first =

@@ -11,3 +11,4 @@ pub mod Reach
 pub mod Reads
 pub mod Region
 pub mod Examples
+pub mod Laws

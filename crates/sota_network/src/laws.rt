@@ -4,21 +4,31 @@ ghost use Rattle.std.specs.Prelude.{ℕ, ◌≡◌, ◌≢◌, ◌+◌, ◌-◌,
 ghost use Rattle.std.specs.Prelude.{slice_index_or, Bool, true, false, Option, Some, None};
 ghost use Rattle.std.specs.List.{All, Contains};
 ghost use Rattle.sota_units.specs.Rounding.{ONE, floor_by, ceiling_by};
-ghost use Rattle.sota_hist.specs.Time.{IsTime, total};
+ghost use Rattle.sota_hist.specs.Time.{IsTime, total, is_closed, least_tick};
 ghost use Rattle.sota_network.specs.declared.network.Arc.{Arc};
 ghost use Rattle.sota_network.specs.Network.{Net, IsNet, IsArc, arc_at, replaced};
 ghost use Rattle.sota_network.specs.Numbers.{numbers, listed};
 ghost use Rattle.sota_network.specs.Grid.{lo, hi, choice, value_from};
 ghost use Rattle.sota_network.specs.Grid.{best_of, best_sum, choice_of, plain_sum, IsFirstBest};
-ghost use Rattle.sota_network.specs.Trees.{Encloses, Fits, follow, follow_step, score};
-ghost use Rattle.sota_network.specs.Sound.{Sound};
+ghost use Rattle.sota_network.specs.Trees.{Encloses, Fits, Tree, follow, follow_step, score};
+ghost use Rattle.sota_network.specs.Sound.{Sound, Covers};
 ghost use Rattle.sota_network.specs.Walks.{Walk, IsLeastTime};
 ghost use Rattle.sota_network.specs.Reach.{reaches, in_region};
 ghost use Rattle.sota_network.specs.Reads.{Reads};
+ghost use Rattle.sota_network.specs.Laws.{SumLaws, TickLaws, RoundLaws, ScoreLaws};
 ghost use Rattle.sota_network.specs.Region.{pairs_at, need, table_cells, broad_cells};
 ghost use Rattle.sota_network.specs.Region.{is_between, pairs_between, need_between, HasLeastTimes};
 ghost use Rattle.sota_network.specs.Examples.{triangle, chain, chain_tree, fork, late_route};
 ghost use Rattle.sota_network.specs.Examples.{certain_route, twins, bridge, barrier};
+
+/// How sums depend on their values, what ticks and the two roundings are bounded by, and what a
+/// score is made of.
+pub fn sums_and_scores()
+    ensures sums { SumLaws }
+    ensures ticks { TickLaws }
+    ensures rounding { RoundLaws }
+    ensures scores { ScoreLaws }
+{}
 
 /// A network stays one when the time of an arc is replaced, also by a closed one.
 pub fn edits_keep_networks()
@@ -45,7 +55,9 @@ pub fn numbers_of_arcs()
 {}
 
 /// What is chosen among the arcs that leave a node. None of them is worth more than the greatest
-/// worth; where that is 0, and only there, none is chosen, and else the first that has it.
+/// worth; where that is 0, and only there, none is chosen, and else the first that has it. Where
+/// each has another, also of another network, that is worth less by at most g, so have the greatest
+/// worths.
 pub fn choices_by_worth()
     ensures greatest { (net : Net) (worth : Arc → ℕ) (e : ℕ) (arc : Arc) → arc_at net e ≡ Some arc
         → worth arc ≤ best_of net.arcs worth arc.tail }
@@ -53,6 +65,13 @@ pub fn choices_by_worth()
         → (choice_of net.arcs worth i ≡ None) ↔ (best_of net.arcs worth i ≡ 0) }
     ensures found { (net : Net) (worth : Arc → ℕ) (i e : ℕ)
         → choice_of net.arcs worth i ≡ Some e → IsFirstBest net worth i e }
+    ensures first { (net : Net) (worth : Arc → ℕ) (i e : ℕ) → IsFirstBest net worth i e
+        → choice_of net.arcs worth i ≡ Some e }
+    ensures near { (net other : Net) (worth worth_there : Arc → ℕ) (g i : ℕ)
+        → ((e : ℕ) (arc : Arc) → arc_at net e ≡ Some arc → arc.tail ≡ i
+        → (k : ℕ) × (there : Arc) × (arc_at other k ≡ Some there) × (there.tail ≡ i)
+        × (worth arc ≤ worth_there there + g))
+        → best_of net.arcs worth i ≤ best_of other.arcs worth_there i + g }
 {}
 
 /// A list of the values of a function, by number.
@@ -64,6 +83,9 @@ pub fn lists_by_number()
         → listed f n ≡ listed g n }
     ensures within { (f : ℕ → ℕ) (n most : ℕ) → ((i : ℕ) → f i ≤ most)
         → All (λ x. x ≤ most) (listed f n) }
+    ensures items { (items : List ℕ) (f : ℕ → ℕ) (n : ℕ) → length items ≡ n
+        → ((i : ℕ) → 1 ≤ i → i ≤ n → slice_index_or items (i - 1) 0 ≡ f i)
+        → items ≡ listed f n }
 {}
 
 /// The values of the grid, and the tree of a rule, are what their recursion makes of those at
@@ -75,6 +97,14 @@ pub fn grid_recurs()
         → hi net dest i t ≡ value_from ceiling_by net dest (hi net dest) i t }
     ensures tree { (net : Net) (rule : ℕ → ℕ → Option ℕ) (dest i t : ℕ) → IsNet net
         → follow net rule dest i t ≡ follow_step net rule dest (follow net rule dest) i t }
+{}
+
+/// More time makes no value of the grid less.
+pub fn values_rise()
+    ensures lower { (net : Net) (dest i t u : ℕ) → IsNet net → t ≤ u
+        → lo net dest i t ≤ lo net dest i u }
+    ensures upper { (net : Net) (dest i t u : ℕ) → IsNet net → t ≤ u
+        → hi net dest i t ≤ hi net dest i u }
 {}
 
 /// The two values of the grid enclose the greatest on-time probability of all decision trees, the
@@ -102,8 +132,16 @@ pub fn sound_values()
         → IsNet net → Sound net dest values rule → (i t : ℕ) → values i t ≤ ONE }
 {}
 
+/// No decision tree exceeds values that no arc exceeds.
+pub fn covering_values()
+    ensures { (net : Net) (dest : ℕ) (values : ℕ → ℕ → ℕ) → IsNet net → Covers net dest values
+        → (i t : ℕ) (tree : Tree) → Fits net i tree
+        → ONE * score net dest i t tree ≤ values i t * net.scale ^ t }
+{}
+
 /// A node reaches another within a number of ticks exactly where the least ticks of some walk sum
-/// to no more. Where the destination is not reached the grid's values are 0.
+/// to no more. Where the destination is not reached the grid's values are 0. One walk after another
+/// is a walk.
 pub fn reaches_by_walks()
     ensures walk { (net : Net) (dest i j t : ℕ) → IsNet net → reaches net dest j i t ≡ true
         → (n : ℕ) × Walk net dest i j n × (n ≤ t) }
@@ -111,6 +149,8 @@ pub fn reaches_by_walks()
         → reaches net dest j i t ≡ true }
     ensures below { (net : Net) (dest i t : ℕ) → IsNet net → reaches net dest dest i t ≡ false
         → hi net dest i t ≡ 0 }
+    ensures joined { (net : Net) (dest i j k n m : ℕ) → Walk net dest i j n
+        → Walk net dest j k m → Walk net dest i k (n + m) }
 {}
 
 /// Which budgets a node other than the destination has in the region of an ask, how many they are
@@ -139,7 +179,8 @@ pub fn regions_have_least_times()
         → 1 ≤ pairs_at net origin dest last i → HasLeastTimes net origin dest last i }
 {}
 
-/// An entry of the grid is made of the entries that it reads, out of any table that has these.
+/// An entry of the grid is made of the entries that it reads, out of any table that has these. Each
+/// is read over an open arc, at a budget that its least tick leaves at most.
 pub fn entries_of_reads()
     ensures lower { (net : Net) (dest i t : ℕ) (table : ℕ → ℕ → ℕ) → IsNet net → i ≢ dest
         → ((j u : ℕ) → Reads net i t j u → table j u ≡ lo net dest j u)
@@ -150,6 +191,8 @@ pub fn entries_of_reads()
     ensures choice { (net : Net) (dest i t : ℕ) (table : ℕ → ℕ → ℕ) → IsNet net → i ≢ dest
         → ((j u : ℕ) → Reads net i t j u → table j u ≡ lo net dest j u)
         → choice net dest i t ≡ choice_of net.arcs (λ arc. plain_sum arc table t) i }
+    ensures left { (net : Net) (i t j u : ℕ) (reads : Reads net i t j u) → IsNet net
+        → (is_closed reads.arc.time ≡ false) × (u + least_tick reads.arc.time ≤ t) }
 {}
 
 /// The region of an ask is enough: its entries read the region, the destination, and budgets below

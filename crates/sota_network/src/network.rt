@@ -7,6 +7,7 @@ ghost use Rattle.sota_units.specs.Limits.{NODE_LIMIT, ARC_LIMIT};
 ghost use Rattle.sota_hist.specs.Time.{total};
 ghost use Rattle.sota_network.specs.Network.{Net, IsNet, IsArc, IsNode, arc_at, replaced};
 ghost use Rattle.sota_network.specs.Numbers.{numbers};
+ghost use Rattle.sota_network.specs.Adjacency.{end_of};
 
 use crate::adjacency::{Adjacency, End};
 use sota_hist::Histogram;
@@ -161,7 +162,7 @@ impl Network {
         ensures within { All (λ e. (1 ≤ e) × (e ≤ length self.now.arcs)) result.now }
         ensures valid { IsNet self.now }
     {
-        self.leaving.of_node(node)
+        self.arcs_with(End::Tail, node)
     }
 
     /// The numbers of the arcs that enter a node, rising.
@@ -171,7 +172,20 @@ impl Network {
         ensures within { All (λ e. (1 ≤ e) × (e ≤ length self.now.arcs)) result.now }
         ensures valid { IsNet self.now }
     {
-        self.entering.of_node(node)
+        self.arcs_with(End::Head, node)
+    }
+
+    /// The numbers of the arcs that have a node at this end, rising.
+    fn arcs_with(&self, end: End, node: NodeId) -> &[ArcId]
+        requires { IsNode self.now node }
+        ensures value { result.now ≡ numbers (λ arc. end_of end arc == node) 1 self.now.arcs }
+        ensures within { All (λ e. (1 ≤ e) × (e ≤ length self.now.arcs)) result.now }
+        ensures valid { IsNet self.now }
+    {
+        match end {
+            End::Tail => self.leaving.of_node(node),
+            End::Head => self.entering.of_node(node),
+        }
     }
 
     /// Gives an arc another time, and hands the one before back. NoArc exactly where the number is

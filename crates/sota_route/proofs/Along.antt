@@ -1,30 +1,18 @@
 -- What the tree of a route scores.
-use Rattle.std.proofs.Common.{ℕ, zero, suc, ◌≡◌, ◌+◌, ◌-◌, ◌*◌, ◌^◌, ◌<◌, ◌≤◌, zero-add, List, [], ◌∷◌, Some, refl, sym, ◌∙◌, ap, arith, ⊎_elim, subst}
-use Rattle.std.proofs.lemmas.Bool.{eq-eqb, ne_eqb, cases_eq, cases_lt, le-leb, lt-leb}
+use Rattle.std.proofs.Common.{ℕ, zero, suc, ◌≡◌, ◌+◌, ◌-◌, ◌*◌, ◌^◌, ◌<◌, ◌≤◌, List, [], ◌∷◌, Some, refl, sym, ◌∙◌, ap, arith, ⊎_elim, subst}
+use Rattle.std.proofs.lemmas.Bool.{cases_eq, cases_lt}
 use Rattle.std.proofs.lemmas.Nat.{pow-add}
-use Rattle.std.proofs.Math.Nat.{mul-le-mul_left, mul-le-mul_right, pow-suc}
+use Rattle.std.proofs.Math.Nat.{le_of_mul-le-mul_right, mul-le-mul_left, mul-le-mul_right, pow-suc}
 use Rattle.sota_units.specs.Rounding.{ONE, floor_by, ceiling_by}
 use Rattle.sota_hist.specs.Time.{RisesFrom, total}
 use Rattle.sota_network.specs.Network.{Net, IsArc, arc_at}
 use Rattle.sota_network.specs.Grid.{weighed}
-use Rattle.sota_network.specs.Trees.{Tree, Trees, stop, go, Fits, AllFit, score, scores}
+use Rattle.sota_network.specs.Trees.{Tree, stop, go, Fits, AllFit, score, scores}
 use Rattle.sota_network.specs.declared.network.Arc.{Arc}
-use Rattle.sota_sums.specs.Laws.{SumLaws}
+use Rattle.sota_network.specs.Laws.{SumLaws, RoundLaws, ScoreLaws}
 use Rattle.sota_route.specs.Routes.{copies, along, EnclosesRoute}
 use Rattle.sota_route.specs.Bounds.{value_before, route_value}
-use Rattle.sota_route.proofs.Values.{cancel, floor-down, ceiling-up, before-at_dest, before-elsewhere, value-end, value-go}
-
-score-at_dest : (net : Net) (dest i t : ℕ) (tree : Tree) → i ≡ dest
-    → score net dest i t tree ≡ net.scale ^ t
-unfolding score
-score-at_dest net dest i t stop h = rw (eq-eqb i dest h) refl
-score-at_dest net dest i t (go e children) h = rw (eq-eqb i dest h) refl
-
-score-go : (net : Net) (dest i t e : ℕ) (arc : Arc) (trees : Trees) → (i ≡ dest → ⊥)
-    → arc_at net e ≡ Some arc
-    → score net dest i t (go e trees) ≡ scores net dest arc.head t arc.time trees
-unfolding score
-score-go net dest i t e arc trees h is = rw (ne_eqb i dest h, is) refl
+use Rattle.sota_route.proofs.Values.{before-at_dest, before-elsewhere, value-end, value-go}
 
 along-end : (net : Net) → along net [] ≡ stop
 unfolding along
@@ -48,24 +36,9 @@ weighed-times sums v k t (p ∷ ps) =
     (cases_lt t p.0)
 
 -- the score after an arc, as a sum of what is scored with the budget that is left
-module _ (sums : SumLaws) (net : Net) (dest j t : ℕ) (tree : Tree) where
+module _ (sums : SumLaws) (scores-of : ScoreLaws) (net : Net) (dest j t : ℕ) (tree : Tree) where
   abbrev pub scored : ℕ → ℕ
   scored u = net.scale ^ (t - u) * score net dest j u tree
-
-  scores-in : (p : ℕ × ℕ) (ps : List (ℕ × ℕ)) → p.0 ≤ t
-      → scores net dest j t (p ∷ ps) (copies (p ∷ ps) tree)
-      ≡ p.1 * net.scale ^ (p.0 - 1) * score net dest j (t - p.0) tree + scores net dest j t ps (copies ps tree)
-  unfolding score
-  scores-in p ps h = rw (le-leb p.0 t h) refl
-
-  scores-out : (p : ℕ × ℕ) (ps : List (ℕ × ℕ)) → t < p.0
-      → scores net dest j t (p ∷ ps) (copies (p ∷ ps) tree) ≡ scores net dest j t ps (copies ps tree)
-  unfolding score
-  scores-out p ps h = rw (lt-leb p.0 t h) (zero-add _)
-
-  scores-end : scores net dest j t [] (copies [] tree) ≡ 0
-  unfolding score
-  scores-end = refl
 
   -- the factor of a pair, with one more factor
   power-back : (s : ℕ) → 1 ≤ s → s ≤ t → net.scale ^ (t - (t - s)) ≡ net.scale ^ (s - 1) * net.scale
@@ -78,15 +51,15 @@ module _ (sums : SumLaws) (net : Net) (dest j t : ℕ) (tree : Tree) where
 
   pub scores-are : (floor : ℕ) (ps : List (ℕ × ℕ)) → RisesFrom floor ps
       → scores net dest j t ps (copies ps tree) * net.scale ≡ weighed scored t ps
-  scores-are floor [] r = rw scores-end (omega arith)
+  scores-are floor [] r = rw (scores-of.none net dest j t (copies [] tree)) (omega arith)
   scores-are floor (p ∷ ps) r =
       let rest : scores net dest j t ps (copies ps tree) * net.scale ≡ weighed scored t ps = scores-are p.0 ps r.2 in
       ⊎_elim
-      (λ (out : t < p.0). rw (scores-out p ps out, sums.outside scored t p ps out) rest)
+      (λ (out : t < p.0). rw (scores-of.outside net dest j t p ps tree (copies ps tree) out, sums.outside scored t p ps out) rest)
       (λ (inside : p.0 ≤ t).
       let some : 1 ≤ p.0 = omega (arith, r.0) in
       let back : net.scale ^ (t - (t - p.0)) ≡ net.scale ^ (p.0 - 1) * net.scale = power-back p.0 some inside in
-      rw (scores-in p ps inside, sums.inside scored t p ps inside, back) (omega arith))
+      rw (scores-of.inside net dest j t p ps tree (copies ps tree) inside, sums.inside scored t p ps inside, back) (omega arith))
       (cases_lt t p.0)
 
 -- a route that can be taken from node o and leads to the destination
@@ -113,21 +86,21 @@ along-fits net dest o (e ∷ rest) leads =
 down-step : (q l w s T : ℕ) → 1 ≤ q → l * q ≤ w → w * T ≤ s * q * ONE → l * T ≤ ONE * s
 down-step q l w s T h floor sum =
     let here : (l * q) * T ≤ w * T = mul-le-mul_right T floor in
-    cancel q (l * T) (ONE * s) h (omega arith)
+    le_of_mul-le-mul_right (let z : l * T * q ≤ ONE * s * q = omega arith in z) (omega (arith, h))
 
 up-step : (q l w s T : ℕ) → 1 ≤ q → w ≤ l * q → s * q * ONE ≤ w * T → ONE * s ≤ l * T
 up-step q l w s T h ceiling sum =
     let here : w * T ≤ (l * q) * T = mul-le-mul_right T ceiling in
-    cancel q (ONE * s) (l * T) h (omega arith)
+    le_of_mul-le-mul_right (let z : ONE * s * q ≤ l * T * q = omega arith in z) (omega (arith, h))
 
-module _ (sums : SumLaws) (net : Net) (scale : 1 ≤ net.scale) (dest : ℕ)
+module _ (sums : SumLaws) (rounding : RoundLaws) (scores-of : ScoreLaws) (net : Net) (scale : 1 ≤ net.scale) (dest : ℕ)
     (valid : (e : ℕ) (arc : Arc) → arc_at net e ≡ Some arc → IsArc net arc) where
   module _ (v w : ℕ → ℕ) (o t e : ℕ) (rest : List ℕ) (arc : Arc)
       (off : o ≡ dest → ⊥) (is : arc_at net e ≡ Some arc) (tail : arc.tail ≡ o)
       (low : (u : ℕ) → v u * net.scale ^ u ≤ ONE * score net dest arc.head u (along net rest))
       (high : (u : ℕ) → ONE * score net dest arc.head u (along net rest) ≤ w u * net.scale ^ u) where
     abbrev after : ℕ → ℕ
-    after = scored sums net dest arc.head t (along net rest)
+    after = scored sums scores-of net dest arc.head t (along net rest)
 
     power : (u : ℕ) → u < t → net.scale ^ t ≡ net.scale ^ (t - u) * net.scale ^ u
     power u less =
@@ -162,12 +135,12 @@ module _ (sums : SumLaws) (net : Net) (scale : 1 ≤ net.scale) (dest : ℕ)
     reached = scores net dest arc.head t arc.time (copies arc.time (along net rest))
 
     reached-is : reached * net.scale ≡ weighed after t arc.time
-    reached-is = scores-are sums net dest arc.head t (along net rest) 0 arc.time (valid e arc is).time
+    reached-is = scores-are sums scores-of net dest arc.head t (along net rest) 0 arc.time (valid e arc is).time
 
     score-is : score net dest o t (along net (e ∷ rest)) ≡ reached
     score-is =
         ap (λ (tree : Tree). score net dest o t tree) (along-go net e rest arc is)
-        ∙ score-go net dest o t e arc (copies arc.time (along net rest)) off is
+        ∙ scores-of.taken net dest o t e arc (copies arc.time (along net rest)) off is
 
     off-tail : arc.tail ≡ dest → ⊥
     off-tail at = off (sym tail ∙ at)
@@ -176,19 +149,19 @@ module _ (sums : SumLaws) (net : Net) (scale : 1 ≤ net.scale) (dest : ℕ)
     off-low =
         rw (before-elsewhere floor_by net dest arc v t off-tail, score-is)
         (down-step net.scale (floor_by net.scale (weighed v t arc.time)) (weighed v t arc.time) reached (net.scale ^ t) scale
-        (floor-down net.scale (weighed v t arc.time)) (rw reached-is low-sum))
+        (rounding.down net.scale (weighed v t arc.time)) (rw reached-is low-sum))
 
     off-high : ONE * score net dest o t (along net (e ∷ rest)) ≤ value_before ceiling_by net dest arc w t * net.scale ^ t
     off-high =
         rw (before-elsewhere ceiling_by net dest arc w t off-tail, score-is)
         (up-step net.scale (ceiling_by net.scale (weighed w t arc.time)) (weighed w t arc.time) reached (net.scale ^ t) scale
-        (ceiling-up net.scale (weighed w t arc.time) scale) (rw reached-is high-sum))
+        (rounding.up net.scale (weighed w t arc.time) scale) (rw reached-is high-sum))
 
   -- the two values of a route enclose what its tree scores
   pub along-enclosed : (route : List ℕ) (o t : ℕ) → Leads net dest o route
       → EnclosesRoute net dest route o t (route_value floor_by net dest route t) (route_value ceiling_by net dest route t)
   along-enclosed [] o t leads =
-      rw (value-end floor_by net dest t, value-end ceiling_by net dest t, score-at_dest net dest o t (along net []) leads)
+      rw (value-end floor_by net dest t, value-end ceiling_by net dest t, scores-of.arrived net dest o t (along net []) leads)
       (omega arith, omega arith)
   along-enclosed (e ∷ rest) o t leads =
       let arc : Arc = leads.0 in
@@ -199,7 +172,7 @@ module _ (sums : SumLaws) (net : Net) (scale : 1 ≤ net.scale) (dest : ℕ)
       rw (
         before-at_dest floor_by net dest arc (route_value floor_by net dest rest) t tail,
         before-at_dest ceiling_by net dest arc (route_value ceiling_by net dest rest) t tail,
-        score-at_dest net dest o t (along net (e ∷ rest)) at,
+        scores-of.arrived net dest o t (along net (e ∷ rest)) at,
       )
       (omega arith, omega arith))
       (λ (off : o ≡ dest → ⊥). (

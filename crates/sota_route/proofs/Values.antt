@@ -1,71 +1,22 @@
 -- The values of a route are at most one whole, in order, and close to each other.
-use Rattle.std.proofs.Common.{ℕ, ◌≡◌, ◌+◌, ◌-◌, ◌*◌, ◌/◌, ◌<◌, ◌≤◌, List, [], ◌∷◌, length, Option, None, Some, refl, sym, ◌∙◌, ap, arith, ⊎_elim}
-use Rattle.std.proofs.lemmas.Bool.{eq-eqb, ne_eqb, cases_eq, cases_lt}
-use Rattle.std.proofs.Math.Nat.{mul-le-mul_right, div-mul-le_self, lt-div-mul-add}
+use Rattle.std.proofs.Common.{ℕ, ◌≡◌, ◌+◌, ◌*◌, ◌<◌, ◌≤◌, List, [], ◌∷◌, length, Option, None, Some, refl, sym, ◌∙◌, ap, arith, ⊎_elim}
+use Rattle.std.proofs.lemmas.Bool.{eq-eqb, ne_eqb, cases_eq}
+use Rattle.std.proofs.Math.Nat.{mul-le-mul_right}
 use Rattle.sota_units.specs.Rounding.{ONE, floor_by, ceiling_by}
 use Rattle.sota_hist.specs.Time.{total}
 use Rattle.sota_network.specs.Network.{Net, IsArc, arc_at}
 use Rattle.sota_network.specs.Grid.{weighed}
 use Rattle.sota_network.specs.declared.network.Arc.{Arc}
-use Rattle.sota_sums.specs.Laws.{SumLaws}
+use Rattle.sota_network.specs.Laws.{SumLaws, RoundLaws}
 use Rattle.sota_sums.specs.Bounds.{rounded_in}
 use Rattle.sota_sums.specs.declared.bound.Bound.{Bound}
 use Rattle.sota_sums.specs.declared.bound.Bound.TheVariants.{Lower, Upper}
 use Rattle.sota_route.specs.Bounds.{value_before, route_value}
 
--- a positive factor may go
-pub cancel : (q a b : ℕ) → 1 ≤ q → a * q ≤ b * q → a ≤ b
-cancel q a b h k =
-    ⊎_elim
-    (λ more.
-    let over : (b + 1) * q ≤ a * q = mul-le-mul_right q (let y : b + 1 ≤ a = omega arith in y) in
-    absurd (omega arith))
-    (λ fine. fine)
-    (cases_lt b a)
-
--- both roundings are outward
-pub floor-down : (q x : ℕ) → floor_by q x * q ≤ x
-floor-down q x = div-mul-le_self x q
-
-pub ceiling-up : (q x : ℕ) → 1 ≤ q → x ≤ ceiling_by q x * q
-ceiling-up q x h =
-    let some : 0 < q = omega arith in
-    let more : x + (q - 1) < (x + (q - 1)) / q * q + q = lt-div-mul-add some in
-    omega arith
-
--- and by less than a unit
-floor-close : (q x : ℕ) → 1 ≤ q → x < floor_by q x * q + q
-floor-close q x h = lt-div-mul-add (let some : 0 < q = omega arith in some)
-
-ceiling-close : (q x : ℕ) → ceiling_by q x * q ≤ x + (q - 1)
-ceiling-close q x = div-mul-le_self (x + (q - 1)) q
-
--- below the next multiple is at most the multiple
-below : (q a b : ℕ) → 1 ≤ q → a * q < b * q + q → a ≤ b
-below q a b h k =
-    ⊎_elim
-    (λ more.
-    let over : (b + 1) * q ≤ a * q = mul-le-mul_right q (let y : b + 1 ≤ a = omega arith in y) in
-    absurd (omega arith))
-    (λ fine. fine)
-    (cases_lt b a)
-
--- roundings of sums of which the upper is larger by at most q * g
-pub rounded-order : (q x y : ℕ) → 1 ≤ q → x ≤ y → floor_by q x ≤ ceiling_by q y
-rounded-order q x y h le =
-    cancel q (floor_by q x) (ceiling_by q y) h (omega (arith, floor-down q x, ceiling-up q y h))
-
-pub rounded-gap : (q x y g : ℕ) → 1 ≤ q → y ≤ x + q * g
-    → ceiling_by q y ≤ floor_by q x + (g + 1)
-rounded-gap q x y g h le =
-    below q (ceiling_by q y) (floor_by q x + (g + 1)) h
-    (omega (arith, ceiling-close q y, floor-close q x h))
-
 -- a rounded sum of at most q wholes
-pub rounded-whole : (q x : ℕ) → 1 ≤ q → x ≤ q * ONE → (r : Bound) → rounded_in r q x ≤ ONE
-rounded-whole q x h le Lower = cancel q (floor_by q x) ONE h (omega (arith, floor-down q x))
-rounded-whole q x h le Upper =
-    below q (ceiling_by q x) ONE h (omega (arith, ceiling-close q x))
+rounded-whole : RoundLaws → (q x : ℕ) → 1 ≤ q → x ≤ q * ONE → (r : Bound) → rounded_in r q x ≤ ONE
+rounded-whole rounding q x some most Lower = (rounding.whole q x ONE some most).0
+rounded-whole rounding q x some most Upper = (rounding.whole q x ONE some most).1
 
 -- the value before an arc, at the destination and elsewhere
 pub before-at_dest : (round : ℕ → ℕ → ℕ) (net : Net) (dest : ℕ) (arc : Arc) (v : ℕ → ℕ) (t : ℕ)
@@ -94,7 +45,7 @@ pub value-lost : (round : ℕ → ℕ → ℕ) (net : Net) (dest e : ℕ) (rest 
 unfolding route_value
 value-lost round net dest e rest t is = rw (is, route_value) refl
 
-module _ (sums : SumLaws) (net : Net) (scale : 1 ≤ net.scale) (dest : ℕ)
+module _ (sums : SumLaws) (rounding : RoundLaws) (net : Net) (scale : 1 ≤ net.scale) (dest : ℕ)
     (valid : (e : ℕ) (arc : Arc) → arc_at net e ≡ Some arc → IsArc net arc) where
   weighed-whole : (v : ℕ → ℕ) (t : ℕ) (arc : Arc) → IsArc net arc → ((u : ℕ) → u < t → v u ≤ ONE)
       → weighed v t arc.time ≤ net.scale * ONE
@@ -109,7 +60,7 @@ module _ (sums : SumLaws) (net : Net) (scale : 1 ≤ net.scale) (dest : ℕ)
       ⊎_elim
       (λ at. rw (before-at_dest (rounded_in r) net dest arc v t at) (omega arith))
       (λ off. rw (before-elsewhere (rounded_in r) net dest arc v t off)
-      (rounded-whole net.scale (weighed v t arc.time) scale (weighed-whole v t arc is h) r))
+      (rounded-whole rounding net.scale (weighed v t arc.time) scale (weighed-whole v t arc is h) r))
       (cases_eq arc.tail dest)
 
   value-whole_by : (r : Bound) (e : ℕ) (rest : List ℕ) (t : ℕ)
@@ -150,8 +101,8 @@ module _ (sums : SumLaws) (net : Net) (scale : 1 ≤ net.scale) (dest : ℕ)
       let below_w : weighed v t arc.time ≤ weighed w t arc.time = omega arith in
       let above_v : weighed w t arc.time ≤ weighed v t arc.time + net.scale * g = omega arith in
       rw (before-elsewhere floor_by net dest arc v t off, before-elsewhere ceiling_by net dest arc w t off) (
-        rounded-order net.scale (weighed v t arc.time) (weighed w t arc.time) scale below_w,
-        rounded-gap net.scale (weighed v t arc.time) (weighed w t arc.time) g scale above_v,
+        rounding.order net.scale (weighed v t arc.time) (weighed w t arc.time) scale below_w,
+        rounding.gap net.scale (weighed v t arc.time) (weighed w t arc.time) g scale above_v,
       ))
       (cases_eq arc.tail dest)
 

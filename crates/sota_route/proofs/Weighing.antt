@@ -5,7 +5,7 @@ use Rattle.std.proofs.Math.Nat.{mul-le-mul_right}
 use Rattle.sota_units.specs.Rounding.{ONE}
 use Rattle.sota_hist.specs.Time.{IsTime, total}
 use Rattle.sota_network.specs.Grid.{weighed}
-use Rattle.sota_sums.specs.Laws.{SumLaws}
+use Rattle.sota_network.specs.Laws.{SumLaws}
 use Rattle.sota_sums.specs.Rows.{row_at}
 
 -- a row from budget 0 on holds its values at their own budgets

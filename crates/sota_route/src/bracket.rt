@@ -16,9 +16,8 @@ ghost use Rattle.sota_route.specs.Bounds.{route_result, route_value, value_befor
 use crate::fault::{RouteFault, find_route_fault};
 use crate::laws::routes_are_enclosed;
 use sota_hist::Histogram;
-use sota_network::laws::arcs_by_number;
+use sota_network::laws::{arcs_by_number, sums_and_scores};
 use sota_network::{Arc, Network};
-use sota_sums::laws::sums_of_values;
 use sota_sums::{Bound, arc_sums, round};
 use sota_units::{ArcId, Grain, NoMemory, NodeId, Scale};
 use std::alloc::Global;
@@ -95,7 +94,7 @@ fn take_all_back(
     ensures length { length values.new ≡ length values.old }
 {
     arcs_by_number();
-    sums_of_values();
+    sums_and_scores();
     let scale = network.scale();
     let mut left = route.len();
     while left > 0 {
@@ -137,7 +136,7 @@ fn weigh(time: &Histogram, scale: Scale, bound: Bound, values: &mut [Grain])
         ≡ rounded_in bound scale (weighed (λ x. slice_index values.old x) u time.now) }
     ensures length { length values.new ≡ length values.old }
 {
-    sums_of_values();
+    sums_and_scores();
     let mut sums = [0u128; PART];
     let mut end = values.len();
     while end > 0 {
@@ -168,7 +167,7 @@ fn weigh_part(
         → slice_index values.new u ≡ slice_index values.old u }
     ensures length { length values.new ≡ length values.old }
 {
-    sums_of_values();
+    sums_and_scores();
     let end = from + sums.len();
     arc_sums(time, values, 0, from as u32, sums);
     round(sums, scale, bound, &mut values[from..end], sums.len());

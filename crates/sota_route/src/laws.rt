@@ -6,8 +6,7 @@ ghost use Rattle.sota_route.specs.Faults.{route_fault};
 ghost use Rattle.sota_route.specs.Routes.{start_of};
 ghost use Rattle.sota_route.specs.Bounds.{IsBracket, route_answer};
 
-use sota_network::laws::{arcs_by_number, grid_encloses};
-use sota_sums::laws::sums_of_values;
+use sota_network::laws::{arcs_by_number, grid_encloses, sums_and_scores};
 
 /// The two bounds of a route that is not refused enclose the exact chance of keeping to it, they
 /// differ by at most one unit an arc, and the lower one is at most the upper bound of an ask.
@@ -18,5 +17,5 @@ pub fn routes_are_enclosed()
 {
     arcs_by_number();
     grid_encloses();
-    sums_of_values();
+    sums_and_scores();
 }

@@ -1,9 +1,8 @@
-//! The plain sums of an arc at budgets in a row, made eight at a time, and the two bounds that they are
-//! rounded to.
+//! The plain sums of an arc at budgets in a row, made eight at a time, and the two bounds that they
+//! are rounded to.
 #![tactic(auto)]
 
 mod bound;
-pub mod laws;
 mod sums;
 
 pub use bound::{Bound, round};

@@ -2,6 +2,7 @@ use Rattle.std.proofs.Common.{◌<◌, ◌≤◌, sym, ◌∙◌, ⊎_elim}
 use Rattle.std.proofs.lemmas.Bool.{cases_lt, true≢false}
 use Rattle.sota_network.proofs.Reaching.{reach-walk, walk-reaches}
 use Rattle.sota_network.proofs.Below.{zero-at}
+use Rattle.sota_network.proofs.Walking.{walk-then}
 use Rattle.sota_network.proofs.laws.reaches_by_walks.Goals as goal
 
 pub returns : goal.returns
@@ -15,4 +16,5 @@ returns c = record {
       (λ (less : t < n). less)
       (λ (fits : n ≤ t). absurd (true≢false (sym (walk-reaches net valid dest walk t fits) ∙ none)))
       (cases_lt t n));
+  joined = λ net dest i j k n m one other. walk-then net dest one other;
 }

@@ -20,7 +20,7 @@ take_back-requires-clause-whole c = λ u less.
     let arcs : (e : ℕ) (arc : Arc) → arc_at c.args.network.now e ≡ Some arc → IsArc c.args.network.now arc =
     λ e arc is. c.arcs_by_number.ensures c.args.network.now e arc c.scale-scale.ensures.valid is in
     rw (c.loop-left.invariant.values u (omega (arith, c.loop-left.invariant.length_is)))
-    (value-whole c.sums_of_values.ensures c.args.network.now c.scale-scale.ensures.valid.scale c.args.dest arcs c.args.bound (drop c.loop-left.left c.args.route.now) u)
+    (value-whole c.sums_and_scores.ensures.sums c.sums_and_scores.ensures.rounding c.args.network.now c.scale-scale.ensures.valid.scale c.args.dest arcs c.args.bound (drop c.loop-left.left c.args.route.now) u)
 
 pub loop-left-preserved : goal.loop-left-preserved
 loop-left-preserved c =
@@ -38,6 +38,6 @@ loop-left-preserved c =
       within = omega (arith, c.loop-left.invariant.within);
       values = λ u less.
           c.take_back.ensures.value c.args.network.now u (sym c.scale-scale.ensures.value) (omega (arith, c.loop-left.invariant.length_is))
-          ∙ value-back c.sums_of_values.ensures c.args.network.now c.scale-scale.ensures.valid.scale c.args.dest arcs (rounded_in c.args.bound) e rest c.numbered-arc.result.now (λ x. slice_index c.loop-left.values x) u c.numbered-arc.ensures.value (λ v under. c.loop-left.invariant.values v (omega arith))
+          ∙ value-back c.sums_and_scores.ensures.sums c.sums_and_scores.ensures.rounding c.args.network.now c.scale-scale.ensures.valid.scale c.args.dest arcs (rounded_in c.args.bound) e rest c.numbered-arc.result.now (λ x. slice_index c.loop-left.values x) u c.numbered-arc.ensures.value (λ v under. c.loop-left.invariant.values v (omega arith))
           ∙ ap (λ (route : List ℕ). route_value (rounded_in c.args.bound) c.args.network.now c.args.dest route u) (sym whole);
     }

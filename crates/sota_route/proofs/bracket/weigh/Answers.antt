@@ -13,7 +13,7 @@ loop-end-preserved c =
       length_is = c.weigh_part.ensures.length ∙ c.loop-end.invariant.length_is;
       within = omega (arith, c.loop-end.invariant.within);
       before = λ u less. c.weigh_part.ensures.before u less ∙ c.loop-end.invariant.before u (omega arith);
-      after = taken-back c.sums_of_values.ensures (rounded_in c.args.bound c.args.scale) c.args.time.now c.requires.rises c.args.values.now c.loop-end.values c.weigh_part.new.values (c.loop-end.end - c.min-count.result) c.loop-end.end (length c.args.values.now)
+      after = taken-back c.sums_and_scores.ensures.sums (rounded_in c.args.bound c.args.scale) c.args.time.now c.requires.rises c.args.values.now c.loop-end.values c.weigh_part.new.values (c.loop-end.end - c.min-count.result) c.loop-end.end (length c.args.values.now)
           (omega arith)
           (λ x less. c.weigh_part.ensures.value x (omega (arith, room, back)))
           (λ u past. c.weigh_part.ensures.after u (omega (arith, room, back)))

@@ -54,7 +54,7 @@ use Rattle.std.proofs.ptr.copy_nonoverlapping.Met as callee
 use Rattle.sota_bank.specs.Places.{IsRun, spliced}
 use Rattle.sota_bank.specs.Ownership.{slots, cells_own}
 use Rattle.sota_bank.proofs.Blocks.{uncapped}
-use Rattle.sota_bank.proofs.Memory.{Cr, Bs, sz, Place, word_had, says_both, Around, run_out, run_in, to_row, of_row, of_room, to_room}
+use Rattle.sota_bank.proofs.Memory.{Cr, Bs, sz, Place, number_had, place_had, says_both, Around, run_out, run_in, to_row, of_row, of_room, to_room}
 use Rattle.sota_bank.specs.contracts.cells.Cells.move_run as F
 use Rattle.sota_bank.specs.contracts.cells.Cells.move_run.Key.{name as #self}
 use Rattle.sota_bank.proofs.cells.Cells.move_run.Statement as stated
@@ -242,12 +242,12 @@ module _ (E : El) {M : Type 1} {𝓤 : Ura M} (𝓛 : Logic 𝓤) (at_mem : Memo
       qed 𝓛 (((‵ (flft κ₀ q₀) ⊛ ‵ (flft κ₁ q₁) ⊛ ‵ (flft κ₂ q₂) ⊛ ‵ ftrue) ⊛ ‵ (owns (MutRef (named 0) κ₀ (Cr E) ∷ Bs E ∷ usize ∷ MutRef (named 1) κ₁ (Cr E) ∷ Bs E ∷ usize ∷ usize ∷ []) z.0.3 z.0.4)) ∷ (raw (fact 𝓤 (κ₂ ⊑ E.row.lives)) ⊛ raw (fact 𝓤 Ok)) ∷ []) ∵
       move ! (1 ∷ []) $ split ! $ heard ! (κ₂ ⊑ E.row.lives) (λ lives. heard ! Ok (λ asked. split ! $ move ! (1 ∷ []) $
       fsplit ! $ fsplit3 ! $ feq_l ! (λ e0. move ! (2 ∷ []) $
-      fsplit ! $ word_had ! start.ptr us1 (λ e1. fsplit ! $ fsplit ! $ feq_l ! (λ e2. flt_l ! (λ fits_from.
+      place_had ! E (MutRef (named 1) κ₁ (Cr E) ∷ Bs E ∷ usize ∷ usize ∷ []) start from z.0.3.1.1.1 us1 z.0.4.1.1.0 z.0.4.1.1.1 (λ e1 e2 fits_from.
       fsplit ! $ fsplit3 ! $ feq_l ! (λ e3. move ! (2 ∷ []) $
-      fsplit ! $ word_had ! other_start.ptr us4 (λ e4. fsplit ! $ fsplit ! $ feq_l ! (λ e5. flt_l ! (λ fits_to. fsplit ! $ fsplit ! $ feq_l ! (λ e6. flt_l ! (λ fits_len.
+      place_had ! E (usize ∷ []) other_start to (len, tt) us4 z.0.4.1.1.1.1.1.0 z.0.4.1.1.1.1.1.1 (λ e4 e5 fits_to. number_had ! [] len tt z.0.4.1.1.1.1.1.1.0 tt (λ e6 fits_len.
       keep ! (3 ∷ 4 ∷ 1 ∷ 2 ∷ 5 ∷ []) $
       by ! (subst (λ (ws : Words). ent 𝓤 (⋆ 𝓛 Had) (WpFn 𝓤 H C Λ (function E) (ws.0 ++ (ws.1 ++ (ws.2 ++ (ws.3 ++ (ws.4 ++ (ws.5 ++ (ws.6 ++ []))))))) Post)) (λ j. (sym e0 j, sym e1 j, sym e2 j, sym e3 j, sym e4 j, sym e5 j, sym e6 j))
-      (walk e0 e3 lives asked fits_from fits_to fits_len))))))))))))))
+      (walk e0 e3 lives asked fits_from fits_to fits_len)))))))))
 
 meets : (E : El) {M : Type 1} {𝓤 : Ura M} (𝓛 : Logic 𝓤) (at_mem : Memory → SProp 𝓤) (run : Routine → Fun 𝓤) (𝓣 : Tables 𝓤 𝓛.H) → Triple 𝓤 (𝓣.C (copy_key E.row)) (Copies E.row 𝓛 at_mem run)
     → Meets 𝓛 (ended E).signature (WpFn 𝓤 𝓛.H 𝓣.C 𝓣.Λ (function E)) (closing 𝓛 (ended E) (clauses E 𝓛 at_mem run))

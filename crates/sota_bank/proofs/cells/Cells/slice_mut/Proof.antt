@@ -50,7 +50,7 @@ use Rattle.std.proofs.mem.Param.{El, R, args, el_x}
 use Rattle.std.proofs.ptr.Rows.{times_below}
 use Rattle.sota_bank.specs.Places.{somes, IsRun, spliced}
 use Rattle.sota_bank.specs.Ownership.{slots, cells_own}
-use Rattle.sota_bank.proofs.Memory.{Cr, Bs, Mark, sz, Place, word_had, Around, run_out, run_in, to_cells, of_cells}
+use Rattle.sota_bank.proofs.Memory.{Cr, Bs, Mark, sz, Place, number_had, place_had, Around, run_out, run_in, to_cells, of_cells}
 use types.SemTy.{cells}
 use denote.Array.{Array}
 use denote.Slice.{MutSlice, slice_val}
@@ -169,14 +169,9 @@ module _ (E : El) {M : Type 1} {𝓤 : Ura M} (𝓛 : Logic 𝓤) (C : Calls �
       fsplit ! $
       fsplit3 ! $ feq_l ! (λ e0.
       move ! (2 ∷ []) $
-      fsplit ! $
-      word_had ! base.ptr us1 (λ e1.
-      fsplit ! $
-      fsplit ! $ feq_l ! (λ e2. flt_l ! (λ fits_from.
-      fsplit ! $
-      fsplit ! $ feq_l ! (λ e3. flt_l ! (λ fits_len.
+      place_had ! E (usize ∷ []) base from (len, tt) us1 us2 (us3, tt) (λ e1 e2 fits_from. number_had ! [] len tt us3 tt (λ e3 fits_len.
       keep ! (1 ∷ 2 ∷ 3 ∷ []) $
-      by ! (subst (λ (ws : List Val × List Val × List Val × List Val). ent 𝓤 (⋆ 𝓛 Had) (WpFn 𝓤 H C Λ (function E) (ws.0 ++ (ws.1 ++ (ws.2 ++ (ws.3 ++ [])))) Post)) (λ j. (sym e0 j, sym e1 j, sym e2 j, sym e3 j)) (walk asked fits_from fits_len))))))))
+      by ! (subst (λ (ws : List Val × List Val × List Val × List Val). ent 𝓤 (⋆ 𝓛 Had) (WpFn 𝓤 H C Λ (function E) (ws.0 ++ (ws.1 ++ (ws.2 ++ (ws.3 ++ [])))) Post)) (λ j. (sym e0 j, sym e1 j, sym e2 j, sym e3 j)) (walk asked fits_from fits_len)))))
 
 meets : (E : El) {M : Type 1} {𝓤 : Ura M} (𝓛 : Logic 𝓤) (𝓣 : Tables 𝓤 𝓛.H)
     → Meets 𝓛 (ended E).signature (WpFn 𝓤 𝓛.H 𝓣.C 𝓣.Λ (function E)) (closing 𝓛 (ended E) (spec E 𝓛))

@@ -47,7 +47,7 @@ use Rattle.std.proofs.mem.Param.{El, R, args, elτ}
 use Rattle.std.proofs.ptr.Rows.{times_below, one_below}
 use Rattle.std.proofs.RawLayout.{as_written}
 use Rattle.sota_bank.specs.Ownership.{slot, slots, cells_own}
-use Rattle.sota_bank.proofs.Memory.{Cr, Bs, sz, word_had, value_in, tells, Besides, slot_out, slot_in, emptied}
+use Rattle.sota_bank.proofs.Memory.{Cr, Bs, sz, place_had, value_in, tells, Besides, slot_out, slot_in, emptied}
 use Rattle.sota_bank.specs.contracts.cells.Cells.write.Key.{name as #self}
 use Rattle.sota_bank.proofs.cells.Cells.write.Statement as stated
 use Rattle.sota_bank.proofs.cells.Cells.write.Code as code
@@ -123,14 +123,11 @@ module _ (E : El) {M : Type 1} {𝓤 : Ura M} (𝓛 : Logic 𝓤) (C : Calls �
       fsplit ! $
       fsplit3 ! $ feq_l ! (λ e0.
       move ! (2 ∷ []) $
-      fsplit ! $
-      word_had ! base.ptr us1 (λ e1.
-      fsplit ! $
-      fsplit ! $ feq_l ! (λ e2. flt_l ! (λ fits_index.
+      place_had ! E (R E ∷ []) base index (item, tt) us1 us2 (us3, tt) (λ e1 e2 fits_index.
       fsplit ! $
       tells E.row E.laws ! item us3 (λ v_item e3 good_item.
       keep ! (2 ∷ 3 ∷ 4 ∷ 0 ∷ []) $
-      by ! (subst (λ (ws : List Val × List Val × List Val × List Val). ent 𝓤 (⋆ 𝓛 (Had v_item)) (WpFn 𝓤 H C Λ (function E) (ws.0 ++ (ws.1 ++ (ws.2 ++ (ws.3 ++ [])))) Post)) (λ j. (sym e0 j, sym e1 j, sym e2 j, sym e3 j)) (walk e0 asked fits_index v_item good_item)))))))
+      by ! (subst (λ (ws : List Val × List Val × List Val × List Val). ent 𝓤 (⋆ 𝓛 (Had v_item)) (WpFn 𝓤 H C Λ (function E) (ws.0 ++ (ws.1 ++ (ws.2 ++ (ws.3 ++ [])))) Post)) (λ j. (sym e0 j, sym e1 j, sym e2 j, sym e3 j)) (walk e0 asked fits_index v_item good_item)))))
 
 meets : (E : El) {M : Type 1} {𝓤 : Ura M} (𝓛 : Logic 𝓤) (𝓣 : Tables 𝓤 𝓛.H)
     → Meets 𝓛 (ended E).signature (WpFn 𝓤 𝓛.H 𝓣.C 𝓣.Λ (function E)) (closing 𝓛 (ended E) (spec E 𝓛))
