@@ -1,12 +1,12 @@
 -- Walks between the source of a search and a node, in the order in which the search meets their arcs.
-use Rattle.std.proofs.Common.{ℕ, ◌≡◌, ◌≢◌, ◌+◌, ◌≤◌, Bool, true, false, length, None, Some, refl, subst, arith}
+use Rattle.std.proofs.Common.{ℕ, ◌≡◌, ◌≢◌, ◌+◌, ◌≤◌, Bool, true, false, length, Option, None, Some, refl, subst, arith}
 use Rattle.std.specs.List.{All, Contains}
 use Rattle.sota_hist.specs.Time.{is_closed, least_tick}
 use Rattle.sota_network.specs.Network.{Net, IsNode, IsArc, arc_at}
 use Rattle.sota_network.specs.Numbers.{numbers}
 use Rattle.sota_network.specs.Walks.{Walk, empty, step}
 use Rattle.sota_network.specs.declared.network.Arc.{Arc}
-use Rattle.sota_bounds.specs.Search.{start_of, end_of, IsLeastBetween}
+use Rattle.sota_bounds.specs.Search.{start_of, end_of, IsLeastBetween, Joins, IsBeyond, IsFoundBetween}
 use Rattle.sota_bounds.specs.declared.search.Direction.{Direction}
 use Rattle.sota_bounds.specs.declared.search.Direction.TheVariants.{Along, Against}
 
@@ -28,11 +28,6 @@ end-valid net Against arc is = is.tail
 -- a walk may go over the arc
 abbrev pub IsUsable : ℕ → Arc → Type 0
 IsUsable dest arc = (arc.tail ≢ dest) × (is_closed arc.time ≡ false)
-
--- a walk between the source and node i
-abbrev pub Joins : Net → ℕ → Direction → ℕ → ℕ → ℕ → Type 0
-Joins net dest Along source i n = Walk net dest source i n
-Joins net dest Against source i n = Walk net dest i source n
 
 pub joins-start : (net : Net) (dest : ℕ) (direction : Direction) (source : ℕ) → Joins net dest direction source source 0
 joins-start net dest Along source = empty
@@ -95,3 +90,12 @@ least-some net dest Against source i n is = record { walk = is.walk; least = is.
 pub least-none : (net : Net) (dest : ℕ) (direction : Direction) (source i : ℕ) → ((n : ℕ) → Joins net dest direction source i n → ⊥) → IsLeastBetween net dest direction source i None
 least-none net dest Along source i never = never
 least-none net dest Against source i never = never
+
+-- what is found where nothing is beyond is the least time
+pub found-least : (net : Net) (dest : ℕ) (direction : Direction) (source i : ℕ) (found : Option ℕ) → IsFoundBetween None net dest direction source i found → IsLeastBetween net dest direction source i found
+found-least net dest direction source i None is = least-none net dest direction source i is
+found-least net dest direction source i (Some n) is = is
+
+pub beyond-later : (most : Option ℕ) (m n : ℕ) → m ≤ n → IsBeyond most m → IsBeyond most n
+beyond-later None m n h beyond = beyond
+beyond-later (Some most) m n h beyond = omega (arith, h, beyond)

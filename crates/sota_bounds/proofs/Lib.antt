@@ -6,3 +6,4 @@ pub mod Earliest
 pub mod Spans
 pub mod Adding
 pub mod Counted
+pub mod Missing

@@ -13,11 +13,11 @@ use Rattle.sota_hist.specs.Time.{is_closed, least_tick}
 use Rattle.sota_network.specs.Network.{Net, IsNode, arc_at}
 use Rattle.sota_network.specs.declared.network.Arc.{Arc}
 use Rattle.sota_units.specs.Limits.{TICK_LIMIT}
-use Rattle.sota_bounds.specs.Search.{start_of, end_of, arcs_at, time_at, further, next_visit, next_visits}
+use Rattle.sota_bounds.specs.Search.{start_of, end_of, arcs_at, time_at, further, next_visit, next_visits, Joins}
 use Rattle.sota_bounds.specs.declared.search.Direction.{Direction}
 use Rattle.sota_bounds.specs.declared.search.Visit.{Visit}
 use Rattle.sota_bounds.proofs.Queued.{filter_map-all, filter_map-has, filter_map-short}
-use Rattle.sota_bounds.proofs.Joined.{HasArcs, start-valid, end-valid, IsUsable, Joins, IsLeastJoin, joins-step}
+use Rattle.sota_bounds.proofs.Joined.{HasArcs, start-valid, end-valid, IsUsable, IsLeastJoin, joins-step}
 use Rattle.sota_bounds.proofs.Settling.{settled, IsWait, IsSettled, Waits, IsSearch, settled-here, settled-other, settled-more, still-waits, earliest-least}
 
 unless : {X : Type 0} (b : Bool) (x y : X) → cond b None (Some x) ≡ Some y → (b ≡ false) × (x ≡ y)

@@ -1,23 +1,23 @@
 -- Dijkstra's search: what is settled is least.
-use Rattle.std.proofs.Common.{ℕ, ◌≡◌, ◌≢◌, ◌+◌, ◌-◌, ◌*◌, ◌<◌, ◌≤◌, Bool, true, false, not, cond, List, [], ◌∷◌, length, get_or, set, Option, None, Some, IfSome, refl, sym, ◌∙◌, ap, subst, arith, inl, inr, ◌⊎◌, ⊎_elim}
+use Rattle.std.proofs.Common.{ℕ, suc, ◌≡◌, ◌≢◌, ◌+◌, ◌-◌, ◌*◌, ◌<◌, ◌≤◌, Bool, true, false, not, cond, List, [], ◌∷◌, length, get_or, set, Option, None, Some, IfSome, refl, sym, ◌∙◌, ap, subst, arith, inl, inr, ◌⊎◌, ⊎_elim}
 use Rattle.std.specs.List.{All, Contains, count_by}
 use Rattle.std.specs.Option.{is_some}
 use Rattle.std.specs.List.Sorted.{IsPermutation}
 use Rattle.std.proofs.lemmas.List.{get_or-set_same, get_or-set_other, get_or_default}
 use Rattle.std.proofs.lemmas.List.Sums.{sum_by-set, count_by-le-length}
 use Rattle.std.proofs.lemmas.List.Elements.{All-contains, All-nil, All-head, All-tail, All-cons, Contains-push}
-use Rattle.std.proofs.lemmas.List.Sorted.{All-permutation, Contains-permutation}
+use Rattle.std.proofs.lemmas.List.Sorted.{All-permutation, Contains-permutation, length_permutation}
 use Rattle.std.proofs.lemmas.Option.{none-some}
 use Rattle.std.proofs.lemmas.Bool.{true≢false}
 use Rattle.sota_hist.specs.Time.{least_tick}
 use Rattle.sota_network.specs.Network.{Net, IsNode, arc_at}
 use Rattle.sota_network.specs.declared.network.Arc.{Arc}
 use Rattle.sota_units.specs.Limits.{NODE_LIMIT, TICK_LIMIT}
-use Rattle.sota_bounds.specs.Search.{start_of, end_of, time_at, IsLeastBetween, TIME_LIMIT}
+use Rattle.sota_bounds.specs.Search.{start_of, end_of, time_at, Joins, IsBeyond, IsFoundBetween, TIME_LIMIT}
 use Rattle.sota_bounds.specs.declared.search.Direction.{Direction}
 use Rattle.sota_bounds.specs.declared.search.Visit.{Visit}
 use Rattle.sota_bounds.proofs.Queued.{in-cons}
-use Rattle.sota_bounds.proofs.Joined.{HasArcs, start-valid, end-valid, IsUsable, Joins, IsLeastJoin, least-some, least-none, joins-start, joins-step, joins-kept}
+use Rattle.sota_bounds.proofs.Joined.{HasArcs, start-valid, end-valid, IsUsable, IsLeastJoin, least-some, beyond-later, joins-start, joins-step, joins-kept}
 
 -- how many nodes are settled
 abbrev pub settled : List (Option ℕ) → ℕ
@@ -84,12 +84,27 @@ still-waits net times old rest queue visit moved kept done i n waits =
     (λ (among : Contains rest waits.0). inr (waits.0, kept waits.0 among, waits.2, waits.3))
     (in-cons visit rest waits.0 (Contains-permutation old (visit ∷ rest) waits.0 moved waits.1))
 
--- the node that is visited has a place
-pub visited : (net : Net) (dest : ℕ) (direction : Direction) (source : ℕ) (times : List (Option ℕ)) (queue rest : List Visit) (visit : Visit) (k : ℕ) → IsSearch net dest direction source times queue
-    → IsPermutation queue (visit ∷ rest) → k ≡ visit.node → k - 1 < length times
-visited net dest direction source times queue rest visit k is moved at =
-    let wait = All-head (IsWait net dest direction source (settled times)) visit rest (All-permutation (IsWait net dest direction source (settled times)) queue (visit ∷ rest) moved is.waits) in
-    omega (arith, wait.node, is.count)
+-- what is visited has waited
+module _ (net : Net) (dest : ℕ) (direction : Direction) (source : ℕ) (times : List (Option ℕ)) (queue rest : List Visit) (visit : Visit) (is : IsSearch net dest direction source times queue) (moved : IsPermutation queue (visit ∷ rest)) where
+  waited : IsWait net dest direction source (settled times) visit
+  waited = All-head (IsWait net dest direction source (settled times)) visit rest (All-permutation (IsWait net dest direction source (settled times)) queue (visit ∷ rest) moved is.waits)
+
+  pub visits-node : IsNode net visit.node
+  visits-node = waited.node
+
+  pub visits-soon : net.nodes ≤ NODE_LIMIT → visit.time.0 ≤ TIME_LIMIT
+  visits-soon small =
+      let most : settled times ≤ length times = count_by-le-length (λ (time : Option ℕ). is_some time) times in
+      omega (arith, waited.soon, most, is.count, small)
+
+  -- its node has a place
+  pub visited : (k : ℕ) → k ≡ visit.node → k - 1 < length times
+  visited k at = omega (arith, waited.node, is.count, at)
+
+  pub shorter : length rest < length queue
+  shorter =
+      let one : suc (length rest) ≡ length queue = length_permutation queue (visit ∷ rest) moved in
+      omega (arith, one)
 
 module _ (net : Net) (arcs : HasArcs net) (dest : ℕ) (direction : Direction) (source : ℕ) (at_source : IsNode net source) where
   -- ---- a walk usable what is settled over an arc, so that something waits no later than it ends
@@ -147,19 +162,19 @@ module _ (net : Net) (arcs : HasArcs net) (dest : ℕ) (direction : Direction) (
           (reached visit.node m walk).1;
     }
 
-    least-found : ((visit : Visit) → Contains queue visit → ⊥) → (i : ℕ) (found : Option ℕ) → IsNode net i → time_at times i ≡ found → IsLeastBetween net dest direction source i found
-    least-found nothing i None node same =
-        least-none net dest direction source i
-        (λ m walk.
+    -- where nothing waits within the most, what is settled is all that a search finds
+    found-by : (most : Option ℕ) → All (λ (visit : Visit). IsBeyond most visit.time.0) queue → (i : ℕ) (found : Option ℕ) → IsNode net i → time_at times i ≡ found → IsFoundBetween most net dest direction source i found
+    found-by most later i None node same =
+        λ m walk.
         ⊎_elim
-        (λ (done : (n : ℕ) × (time_at times i ≡ Some n) × (n ≤ m)). none-some done.0 (sym same ∙ done.1))
-        (λ (early : (w : Visit) × Contains queue w × (w.time.0 ≤ m)). nothing early.0 early.1)
-        (reached i m walk).1)
-    least-found nothing i (Some n) node same = least-some net dest direction source i n (is.least i n node same)
+        (λ (done : (n : ℕ) × (time_at times i ≡ Some n) × (n ≤ m)). absurd (none-some done.0 (sym same ∙ done.1)))
+        (λ (early : (w : Visit) × Contains queue w × (w.time.0 ≤ m)).
+        beyond-later most early.0.time.0 m early.2 (All-contains (λ (visit : Visit). IsBeyond most visit.time.0) queue early.0 later early.1))
+        (reached i m walk).1
+    found-by most later i (Some n) node same = least-some net dest direction source i n (is.least i n node same)
 
-    -- where nothing waits, the times are the least
-    pub all-least : ((visit : Visit) → Contains queue visit → ⊥) → (i : ℕ) → IsNode net i → IsLeastBetween net dest direction source i (time_at times i)
-    all-least nothing i node = least-found nothing i (time_at times i) node refl
+    pub all-found : (most : Option ℕ) → All (λ (visit : Visit). IsBeyond most visit.time.0) queue → (i : ℕ) → IsNode net i → IsFoundBetween most net dest direction source i (time_at times i)
+    all-found most later i node = found-by most later i (time_at times i) node refl
 
     -- a visit is dropped whose node is settled
     pub dropped : (rest : List Visit) (visit : Visit) → IsPermutation queue (visit ∷ rest) → IsSettled times visit.node → IsSearch net dest direction source times rest

@@ -1,4 +1,5 @@
 pub mod Search
+pub mod Range
 pub mod Faults
 pub mod Cells
 pub mod Regions

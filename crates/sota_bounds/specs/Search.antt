@@ -1,5 +1,5 @@
 -- What a search for least times has found, in either direction.
-use Rattle.std.specs.Prelude.{ℕ, ◌-◌, ◌+◌, ◌*◌, ◌==◌, ◌||◌, List, slice_index_or}
+use Rattle.std.specs.Prelude.{ℕ, ◌-◌, ◌+◌, ◌*◌, ◌<◌, ◌==◌, ◌||◌, List, slice_index_or}
 use Rattle.std.specs.Prelude.{Option, None, Some, if◌then◌else◌}
 use Rattle.std.specs.List.{filter_map}
 use Rattle.std.specs.Option.{is_some, option_and_then}
@@ -9,7 +9,7 @@ use Rattle.sota_units.specs.Limits.{NODE_LIMIT, TICK_LIMIT}
 use Rattle.sota_hist.specs.Time.{is_closed, least_tick}
 use Rattle.sota_network.specs.Network.{Net, arc_at}
 use Rattle.sota_network.specs.Numbers.{numbers}
-use Rattle.sota_network.specs.Walks.{IsLeastTime}
+use Rattle.sota_network.specs.Walks.{Walk, IsLeastTime}
 use Rattle.sota_network.specs.declared.network.Arc.{Arc}
 use Rattle.sota_bounds.specs.declared.search.Direction.{Direction}
 use Rattle.sota_bounds.specs.declared.search.Direction.TheVariants.{Along, Against}
@@ -33,8 +33,8 @@ arcs_at direction net node = numbers (λ arc. start_of direction arc == node) 1 
 abbrev pub time_at : List (Option ℕ) → ℕ → Option ℕ
 time_at times i = slice_index_or times (i - 1) None
 
--- no least time is more: a walk of that time comes to no node twice, so it has fewer arcs than there
--- are nodes
+-- no least time is more: a walk of that time comes to no node twice, so it has fewer arcs than
+-- there are nodes
 abbrev pub TIME_LIMIT : ℕ
 TIME_LIMIT = NODE_LIMIT * TICK_LIMIT
 
@@ -64,3 +64,21 @@ by_time v w = ordering_then (nat_cmp w.time.0 v.time.0) (nat_cmp v.node w.node)
 abbrev pub IsLeastBetween : Net → ℕ → Direction → ℕ → ℕ → Option ℕ → Type 0
 IsLeastBetween net dest Along source i time = IsLeastTime net dest source i time
 IsLeastBetween net dest Against source i time = IsLeastTime net dest i source time
+
+-- a walk between the source and node i
+abbrev pub Joins : Net → ℕ → Direction → ℕ → ℕ → ℕ → Type 0
+Joins net dest Along source i n = Walk net dest source i n
+Joins net dest Against source i n = Walk net dest i source n
+
+-- more than the most: nothing is where there is no most
+abbrev pub IsBeyond : Option ℕ → ℕ → Type 0
+IsBeyond None n = ⊥
+IsBeyond (Some most) n = most < n
+
+-- what a search for times of at most so much has found between the source and node i: the least
+-- time, or none where each walk takes more
+abbrev pub IsFoundBetween : Option ℕ → Net → ℕ → Direction → ℕ → ℕ → Option ℕ → Type 0
+IsFoundBetween most net dest direction source i None =
+    (n : ℕ) → Joins net dest direction source i n → IsBeyond most n
+IsFoundBetween most net dest direction source i (Some n) =
+    IsLeastBetween net dest direction source i (Some n)

@@ -7,6 +7,7 @@ ghost use Rattle.sota_network.specs.Network.{IsNode, arc_at};
 ghost use Rattle.sota_network.specs.declared.network.Arc.{Arc};
 ghost use Rattle.sota_kept.specs.Edits.{first_affected_by};
 ghost use Rattle.sota_bounds.specs.Affected.{IsFirstAffected};
+ghost use Rattle.sota_bounds.specs.Regions.{AreLeastTo};
 ghost use Rattle.sota_bounds.specs.Search.{TIME_LIMIT, time_at};
 
 use crate::least::least_to;
@@ -32,8 +33,28 @@ pub fn affected(
         → arc_at network.now arc ≡ Some edited → IsFirstAffected network.now dest edited first i
         (slice_index_or budgets.items (i - 1) None)) }
 {
+    let least = least_to(alloc, network, dest)?;
+    affected_by_least(alloc, network, &least, dest, arc, first)
+}
+
+/// The same by the least times to the destination, which are known: one search, to the arc's tail.
+pub fn affected_by_least(
+    alloc: Global,
+    network: &Network,
+    least: &[Option<u64>],
+    dest: NodeId,
+    arc: ArcId,
+    first: Tick,
+) -> Result<Vec<Option<u64>>, NoMemory>
+    requires least { AreLeastTo network.now dest least.now }
+    requires arc { (1 ≤ arc) × (arc ≤ length network.now.arcs) }
+    ensures nodes { IfOk result (λ budgets. length budgets.items ≡ network.now.nodes) }
+    ensures value { IfOk result (λ budgets. (i : ℕ) (edited : Arc) → IsNode network.now i
+        → arc_at network.now arc ≡ Some edited → IsFirstAffected network.now dest edited first i
+        (slice_index_or budgets.items (i - 1) None)) }
+{
     let arc = network.numbered(arc);
-    let onward = least_to(alloc, network, dest)?[arc.head.get() as usize - 1];
+    let onward = least[arc.head.get() as usize - 1];
     let to = least_times(alloc, network, Direction::Against, arc.tail, dest)?;
     Ok(with_onward(to, dest, arc, first, onward))
 }

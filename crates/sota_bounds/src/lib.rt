@@ -6,13 +6,16 @@ mod ask;
 mod cells;
 mod edits;
 mod fault;
+pub mod laws;
 mod least;
+mod range;
 mod search;
 
-pub use ask::{AskRegion, region};
-pub use edits::affected;
+pub use ask::{AskNeeds, AskRegion, needs_by_least, region};
+pub use edits::{affected, affected_by_least};
 pub use fault::RegionFault;
 pub use least::{least_from, least_to};
+pub use range::{RangeFault, check_range};
 
 #[cfg(test)]
 mod tests;

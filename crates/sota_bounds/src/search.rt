@@ -1,13 +1,13 @@
 // Dijkstra's search: nodes are settled by rising times from or to a source.
-ghost use Rattle.std.specs.Prelude.{ℕ, ◌≡◌, ◌+◌, ◌^◌, ◌<◌, ◌≤◌, ◌++◌, length};
-ghost use Rattle.std.specs.Prelude.{IfOk, IfSome, OnOk};
+ghost use Rattle.std.specs.Prelude.{ℕ, ◌≡◌, ◌+◌, ◌^◌, ◌<◌, ◌≤◌, ◌++◌, ◌∷◌, length};
+ghost use Rattle.std.specs.Prelude.{IfOk, IfSome, IfNone, OnOk};
 ghost use Rattle.std.specs.List.{All};
 ghost use Rattle.std.specs.List.Sorted.{IsPermutation};
 ghost use Rattle.std.specs.BinaryHeap.{heap_items, IsHeap};
 ghost use Rattle.sota_units.specs.Limits.{NODE_LIMIT, TICK_LIMIT};
 ghost use Rattle.sota_network.specs.Network.{IsNode};
 ghost use Rattle.sota_bounds.specs.Search.{end_of, arcs_at, time_at, next_visit, next_visits};
-ghost use Rattle.sota_bounds.specs.Search.{by_time, IsLeastBetween};
+ghost use Rattle.sota_bounds.specs.Search.{by_time, IsLeastBetween, IsBeyond, IsFoundBetween};
 ghost use Rattle.sota_bounds.specs.Search.{TIME_LIMIT};
 
 use sota_network::laws::{arcs_by_number, numbers_of_arcs};
@@ -51,6 +51,27 @@ pub(crate) fn least_times(
     ensures within { IfOk result (λ times.
         All (λ time. IfSome time (λ n. n ≤ TIME_LIMIT)) times.items) }
 {
+    search(alloc, network, direction, source, dest, None)
+}
+
+/// The same where the least time is at most `most`. None: no walk takes so little. The search ends
+/// there, so that it costs what lies within (Dijkstra 1959).
+pub(crate) fn search(
+    alloc: Global,
+    network: &Network,
+    direction: Direction,
+    source: NodeId,
+    dest: NodeId,
+    most: Option<u64>,
+) -> Result<Vec<Option<u64>>, NoMemory>
+    requires { IsNode network.now source }
+    ensures nodes { IfOk result (λ times. length times.items ≡ network.now.nodes) }
+    ensures found { IfOk result (λ times. (i : ℕ) → IsNode network.now i
+        → IsFoundBetween most network.now dest direction source i (time_at times.items i)) }
+    ensures few { IfOk result (λ times. length times.items ≤ NODE_LIMIT) }
+    ensures within { IfOk result (λ times.
+        All (λ time. IfSome time (λ n. n ≤ TIME_LIMIT)) times.items) }
+{
     arcs_by_number();
     numbers_of_arcs();
     let mut times = vec![in alloc; None; network.nodes() as usize]?;
@@ -59,7 +80,7 @@ pub(crate) fn least_times(
         time: Reverse(0),
         node: source,
     })?;
-    while let Some(visit) = queue.pop() {
+    while let Some(visit) = earliest_within(&mut queue, most) {
         let index = visit.node.get() as usize - 1;
         if times[index].is_none() {
             times[index] = Some(visit.time.0);
@@ -67,6 +88,23 @@ pub(crate) fn least_times(
         }
     }
     Ok(times)
+}
+
+/// Takes the earliest visit. None: no visit is within the most.
+fn earliest_within(queue: &mut BinaryHeap<Visit>, most: Option<u64>) -> Option<Visit>
+    requires order { IsHeap by_time (heap_items queue.old) }
+    ensures order { IsHeap by_time (heap_items queue.new) }
+    ensures taken { IfSome result (λ visit.
+        IsPermutation (heap_items queue.old) (visit ∷ heap_items queue.new)) }
+    ensures earliest { IfSome result (λ visit.
+        All (λ v. visit.time.0 ≤ v.time.0) (heap_items queue.old)) }
+    ensures beyond { IfNone result (All (λ v. IsBeyond most v.time.0) (heap_items queue.old)) }
+{
+    let visit = queue.pop()?;
+    match most {
+        Some(most) if most < visit.time.0 => None,
+        _ => Some(visit),
+    }
 }
 
 /// Queues the visits to which one that was settled leads.

@@ -1,7 +1,9 @@
 // Each call once with ample memory, on small networks.
 ghost use Rattle.std.specs.Prelude.{◌≡◌, ◌≤◌, ◌∷◌, [], length, IfOk};
 
-use crate::{AskRegion, RegionFault, affected, least_from, least_to, region};
+use crate::{
+    AskRegion, RangeFault, RegionFault, affected, check_range, least_from, least_to, region,
+};
 use sota_hist::Histogram;
 use sota_network::{Arc, Network};
 use sota_units::{ArcId, Mass, NoMemory, NodeId, Scale, Tick};
@@ -48,6 +50,22 @@ fn affected_budgets(rt: HostRuntime) -> Result<(), Fail> {
     for (arc, first, budgets) in edits {
         let found = affected(rt.alloc(), &network, NodeId(3), ArcId(arc), Tick(first))?;
         assert!(rt; found.as_slice() == budgets.as_slice());
+    }
+    Ok(())
+}
+
+#[test]
+fn ranges(rt: HostRuntime) -> Result<(), Fail> {
+    let network = barred_triangle(rt.alloc())?;
+    let asks = [
+        (4, 1, 65535, Ok(())),
+        (0, 5, 65536, Err(RangeFault::NoOrigin)),
+        (1, 5, 65536, Err(RangeFault::NoDest)),
+        (1, 4, 65536, Err(RangeFault::Budget)),
+    ];
+    for (origin, dest, budget, answer) in asks {
+        let range = check_range(&network, NodeId(origin), NodeId(dest), budget);
+        assert_eq!(rt; range, answer);
     }
     Ok(())
 }

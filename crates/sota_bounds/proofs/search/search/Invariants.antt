@@ -2,7 +2,7 @@ use Rattle.std.proofs.Common.{◌+◌, ◌-◌, ◌*◌, length}
 use Rattle.std.specs.BinaryHeap.{heap_items, IsHeap}
 use Rattle.sota_bounds.specs.Search.{by_time}
 use Rattle.sota_bounds.proofs.Settling.{IsSearch, settled}
-use Rattle.sota_bounds.proofs.search.least_times.Given as goal
+use Rattle.sota_bounds.proofs.search.search.Given as goal
 
 abbrev pub invariant-loop-visit : goal.invariant-loop-visit
 invariant-loop-visit l = record {
