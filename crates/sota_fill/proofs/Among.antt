@@ -4,7 +4,6 @@ use Rattle.std.proofs.lemmas.Bool.{eq-eqb, ne_eqb, eqb-true, cases_eq, cases_lt,
 use Rattle.sota_network.specs.Network.{Net, arc_at}
 use Rattle.std.proofs.lemmas.List.{take_more}
 use Rattle.std.specs.List.{All}
-use Rattle.std.proofs.lemmas.List.Elements.{All-head, All-tail}
 use Rattle.sota_network.specs.Numbers.{numbers, first_number}
 use Rattle.sota_network.specs.Grid.{best_of, choice_of}
 use Rattle.sota_network.specs.declared.network.Arc.{Arc}
@@ -15,16 +14,6 @@ best-in i P a rest h = rw (eq-eqb a.tail i h) refl
 
 best-out : (i : ℕ) (P : Arc → ℕ) (a : Arc) (rest : List Arc) → (a.tail ≡ i → ⊥) → best_of (a ∷ rest) P i ≡ best_of rest P i
 best-out i P a rest h = rw (ne_eqb a.tail i h) refl
-
-pub best-bound : (P : Arc → ℕ) (m i : ℕ) (arcs : List Arc) → All (λ a. P a ≤ m) arcs → best_of arcs P i ≤ m
-best-bound P m i [] h = omega arith
-best-bound P m i (a ∷ rest) h =
-    let one : P a ≤ m = All-head (λ a. P a ≤ m) a rest h in
-    let more : best_of rest P i ≤ m = best-bound P m i rest (All-tail (λ a. P a ≤ m) a rest h) in
-    ⊎_elim
-    (λ e. rw (best-in i P a rest e) (omega arith))
-    (λ ne. rw (best-out i P a rest ne) more)
-    (cases_eq a.tail i)
 
 -- the greatest worth of some numbers, and the first of them that has it
 abbrev pub best_among : (ℕ → ℕ) → List ℕ → ℕ

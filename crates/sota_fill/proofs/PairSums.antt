@@ -1,6 +1,5 @@
 -- Sums over the pairs of a travel time, pair by pair.
 use Rattle.std.proofs.Common.{ℕ, suc, ◌≡◌, ◌+◌, ◌-◌, ◌*◌, ◌<◌, ◌≤◌, cond, nat_eq, ◌==◌, true, false, List, [], ◌∷◌, refl, ◌∙◌, ap, arith, ⊎_elim}
-use Rattle.std.proofs.Math.Nat.{mul-le-mul_left}
 use Rattle.std.proofs.lemmas.Bool.{le-leb, lt-leb, cases_lt, cases_Bool}
 use Rattle.std.specs.List.{filter}
 use Rattle.std.proofs.lemmas.List.Sums.{sum_by-cons}
@@ -19,19 +18,6 @@ total-cons p ps = sum_by-cons (λ (q : ℕ × ℕ). q.1) p ps
 pub mass_at-cons : (t : ℕ) (p : ℕ × ℕ) (ps : List (ℕ × ℕ)) → mass_at t (p ∷ ps) ≡ cond (nat_eq p.0 t) p.1 0 + mass_at t ps
 mass_at-cons t p ps =
     ⊎_elim (λ (here : nat_eq p.0 t ≡ true). rw here (total-cons p (filter (λ (q : ℕ × ℕ). q.0 == t) ps))) (λ (off : nat_eq p.0 t ≡ false). rw off (omega arith)) (cases_Bool (nat_eq p.0 t))
-
--- the sum of values of at most m
-pub weighed-bound : (v : ℕ → ℕ) (m t : ℕ) → ((u : ℕ) → v u ≤ m) → (ps : List (ℕ × ℕ)) → weighed v t ps ≤ total ps * m
-weighed-bound v m t h [] = omega arith
-weighed-bound v m t h (p ∷ ps) =
-    let rest : weighed v t ps ≤ total ps * m = weighed-bound v m t h ps in
-    let whole : total (p ∷ ps) * m ≡ p.1 * m + total ps * m = rw total-cons (omega arith) in
-    ⊎_elim
-    (λ (out : t < p.0). rw (weighed-out v t p ps out, whole) (omega arith))
-    (λ (inside : p.0 ≤ t).
-    let one : p.1 * v (t - p.0) ≤ p.1 * m = mul-le-mul_left p.1 (h (t - p.0)) in
-    rw (weighed-in v t p ps inside, whole) (omega arith))
-    (cases_lt t p.0)
 
 -- values that are equal as far as a time reads them
 pub weighed-same : (v w : ℕ → ℕ) (t floor : ℕ) (ps : List (ℕ × ℕ)) → RisesFrom floor ps → ((u : ℕ) → u + suc floor ≤ t → v u ≡ w u) → weighed v t ps ≡ weighed w t ps

@@ -6,8 +6,8 @@ use Rattle.std.proofs.lemmas.List.{length-append, get_or_append_left, get_or-app
 use Rattle.std.proofs.lemmas.Bool.{cases_lt, cases_eq, eq-eqb, ne_eqb, lt-ltb, le-ltb}
 use Rattle.sota_units.specs.Rounding.{ONE, floor_by, ceiling_by}
 use Rattle.sota_hist.specs.Time.{total, is_closed, least_tick}
-use Rattle.sota_network.specs.Network.{Net, IsNet, IsNode, IsArc, arc_at}
-use Rattle.sota_network.specs.Grid.{lo, hi, choice, plain_sum, best_sum, choice_of}
+use Rattle.sota_network.specs.Network.{Net, IsNode, IsArc, arc_at}
+use Rattle.sota_network.specs.Grid.{lo, hi, choice, plain_sum, best_sum, best_of, choice_of}
 use Rattle.sota_network.specs.declared.network.Arc.{Arc}
 use Rattle.sota_kept.specs.Ticks.{END_LIMIT, least_to}
 use Rattle.sota_kept.specs.NodeTables.{NodeTable, IsReadyAt, AreReady, IsExtent, known_end, lower_of, upper_of, lower_in, upper_in, entry_from}
@@ -15,8 +15,6 @@ use Rattle.sota_kept.specs.Asks.{IsGridEntry}
 use Rattle.sota_tables.specs.Views.{TablesView, OnlyAt, table_at, room_of, longer_table}
 use Rattle.sota_fill.specs.Laws.{Fillable}
 use Rattle.sota_fill.specs.Fills.{IsLonger, IsUnfilled, ReadsGrid}
-use Rattle.sota_fill.proofs.Among.{best-bound}
-use Rattle.sota_fill.proofs.PairSums.{weighed-bound}
 
 -- ---- no value is above one
 past-end : (xs : List ℕ) (k : ℕ) → length xs ≤ k → get_or xs k 0 ≡ 0
@@ -43,28 +41,35 @@ in-le dest j v most =
     (λ (off : j ≡ dest → ⊥). rw (ne_eqb j dest off) (most off))
     (cases_eq j dest)
 
+-- no best worth is above a bound of all
+best-bound : (net : Net) → Fillable net → (worth : Arc → ℕ) (m i : ℕ) → ((e : ℕ) (arc : Arc) → arc_at net e ≡ Some arc → worth arc ≤ m) → (found : Option ℕ) → choice_of net.arcs worth i ≡ found → best_of net.arcs worth i ≤ m
+best-bound net laws worth m i bound None none = omega (arith, (laws.unchosen worth i).0 none)
+best-bound net laws worth m i bound (Some e) some =
+    let first = laws.found worth i e some in
+    omega (arith, first.greatest, bound e first.arc first.number)
+
 -- a table of values of at most one has no sum above the scale
-sum-le : (net : Net) → IsNet net → (f : ℕ → ℕ → ℕ) → ((j u : ℕ) → IsNode net j → f j u ≤ ONE) → (i t : ℕ) → best_sum net f i t ≤ net.scale * ONE
-sum-le net valid f bound i t =
-    best-bound (λ (arc : Arc). plain_sum arc f t) (net.scale * ONE) i net.arcs
-    (λ k d h.
-    let is : IsArc net (get_or net.arcs k d) = valid.arcs k d h in
-    let most : plain_sum (get_or net.arcs k d) f t ≤ total (get_or net.arcs k d).time * ONE =
-    weighed-bound (f (get_or net.arcs k d).head) ONE t (λ u. bound (get_or net.arcs k d).head u is.head) (get_or net.arcs k d).time in
-    let whole : total (get_or net.arcs k d).time * ONE ≤ net.scale * ONE = mul-le-mul_right ONE is.total in
+pub sum-le : (net : Net) → Fillable net → (f : ℕ → ℕ → ℕ) → ((j u : ℕ) → IsNode net j → f j u ≤ ONE) → (i t : ℕ) → best_sum net f i t ≤ net.scale * ONE
+sum-le net laws f bound i t =
+    best-bound net laws (λ (arc : Arc). plain_sum arc f t) (net.scale * ONE) i
+    (λ e arc at.
+    let is : IsArc net arc = laws.arc e arc at in
+    let most : plain_sum arc f t ≤ total arc.time * ONE = laws.sums.whole (f arc.head) ONE t arc.time is.time (λ u early. bound arc.head u is.head) in
+    let whole : total arc.time * ONE ≤ net.scale * ONE = mul-le-mul_right ONE is.total in
     omega (arith, most, whole))
+    (choice_of net.arcs (λ (arc : Arc). plain_sum arc f t) i) refl
 
 module _ (net : Net) (laws : Fillable net) (dest : ℕ) (tables : ℕ → NodeTable) (ready : AreReady net dest tables) where
   pub best-lower_le : (i t : ℕ) → best_sum net (lower_in dest tables) i t ≤ net.scale * ONE
   best-lower_le i t =
-      sum-le net laws.valid (lower_in dest tables)
+      sum-le net laws (lower_in dest tables)
       (λ j u node. in-le dest j (lower_of (tables j) u)
       (λ off. let kept = (ready j node off).settled.kept in row-le (tables j).lower (tables j).front (tables j).base (lo net dest j) kept.shape.lower kept.lower (λ u. omega (arith, laws.order dest j u, laws.whole dest j u)) u))
       i t
 
   pub best-upper_le : (i t : ℕ) → best_sum net (upper_in dest tables) i t ≤ net.scale * ONE
   best-upper_le i t =
-      sum-le net laws.valid (upper_in dest tables)
+      sum-le net laws (upper_in dest tables)
       (λ j u node. in-le dest j (upper_of (tables j) u)
       (λ off. let kept = (ready j node off).settled.kept in row-le (tables j).upper (tables j).front (tables j).base (hi net dest j) kept.shape.upper kept.upper (laws.whole dest j) u))
       i t

@@ -1,4 +1,6 @@
+pub mod Beaten
 pub mod Bounds
+pub mod Certain
 pub mod Fed
 pub mod Fills
 pub mod Laws

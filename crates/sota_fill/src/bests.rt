@@ -1,5 +1,5 @@
 // The best arc that leaves a node, at budgets in a row.
-ghost use Rattle.std.specs.Prelude.{ℕ, ◌≡◌, ◌≢◌, ◌+◌, ◌<◌, ◌≤◌, max, nat_lt, length};
+ghost use Rattle.std.specs.Prelude.{ℕ, ◌≡◌, ◌≢◌, ◌+◌, ◌-◌, ◌*◌, ◌<◌, ◌≤◌, max, nat_lt, length};
 ghost use Rattle.std.specs.Prelude.{slice_index, slice_index_or, None, Some, if◌then◌else◌};
 ghost use Rattle.sota_network.specs.Network.{IsNode, arc_at};
 ghost use Rattle.sota_network.specs.Grid.{plain_sum, best_sum, choice_of};
@@ -7,12 +7,15 @@ ghost use Rattle.sota_network.specs.declared.network.Arc.{Arc};
 ghost use Rattle.sota_kept.specs.Ticks.{END_LIMIT};
 ghost use Rattle.sota_kept.specs.NodeTables.{lower_in, upper_in};
 ghost use Rattle.sota_tables.specs.Views.{HasNode, table_at};
+ghost use Rattle.sota_fill.specs.Beaten.{IsRaised};
 ghost use Rattle.sota_fill.specs.Bounds.{row_in, value_in};
 ghost use Rattle.sota_fill.specs.Fed.{AllFed, AreFed, IsTarget, summers_at};
 ghost use Rattle.sota_fill.specs.Fills.{ReadsAs, ReadsGrid};
 ghost use Rattle.sota_fill.specs.declared.broad.Summers.{Summers};
 
+use crate::beaten::{is_beaten, is_far_below};
 use crate::broad::{Summers, broad_sums, summers_of};
+use crate::laws::filling_laws;
 use crate::part::{Part, choose, raise};
 use crate::target::Target;
 use sota_network::Arc;
@@ -85,8 +88,53 @@ fn sums_of<Z: Summer>(
     }
 }
 
-/// One arc more among those whose greatest sums are found.
-fn add_arc<Z: Summer>(
+/// The lower sums of one arc more among those whose greatest sums are found. Answers the last.
+fn add_lower<Z: Summer>(
+    target: &Target,
+    tables: &Tables,
+    broad: &[Option<Box<Summers<Z>>>],
+    number: ArcId,
+    from: u32,
+    count: usize,
+    part: &mut Part,
+) -> u128
+    requires number { (1 ≤ number) × (number ≤ length target.now.network.now.arcs) }
+    requires nodes { length tables.now.fronts ≡ target.now.network.now.nodes }
+    requires broad { length broad.now ≡ length target.now.network.now.arcs }
+    requires target { IsTarget target.now }
+    requires fed { (arc : Arc) (two : Summers Z) → arc_at target.now.network.now number ≡ Some arc
+        → summers_at broad.now number ≡ Some two
+        → AreFed Z.state target.now.network.now target.now.dest arc (from + count) two }
+    requires reads { (arc : Arc) → arc_at target.now.network.now number ≡ Some arc
+        → ReadsAs target.now.network.now target.now.dest arc (from + count) (table_at tables.now) }
+    requires limit { from + count ≤ END_LIMIT }
+    requires count { (1 ≤ count) × (count ≤ 64) }
+    ensures lower { (arc : Arc) → arc_at target.now.network.now number ≡ Some arc → (x : ℕ)
+        → x < count → slice_index part.new.lower x ≡ max (slice_index part.old.lower x)
+        (plain_sum arc (lower_in target.now.dest (table_at tables.now)) (from + x)) }
+    ensures choices { (arc : Arc) → arc_at target.now.network.now number ≡ Some arc → (x : ℕ)
+        → x < count → slice_index_or part.new.choices x None
+        ≡ if nat_lt (slice_index part.old.lower x)
+        (plain_sum arc (lower_in target.now.dest (table_at tables.now)) (from + x))
+        then Some number else slice_index_or part.old.choices x None }
+    ensures last { (arc : Arc) → arc_at target.now.network.now number ≡ Some arc → result
+        ≡ plain_sum arc (lower_in target.now.dest (table_at tables.now)) (from + (count - 1)) }
+    ensures upper { part.new.upper ≡ part.old.upper }
+{
+    let sums = &mut part.sums[..count];
+    sums_of(target, tables, broad, number, Bound::Lower, from, sums);
+    choose(
+        number,
+        &part.sums,
+        &mut part.lower,
+        &mut part.choices,
+        count,
+    );
+    part.sums[count - 1]
+}
+
+/// Its upper sums.
+fn add_upper<Z: Summer>(
     target: &Target,
     tables: &Tables,
     broad: &[Option<Box<Summers<Z>>>],
@@ -105,35 +153,67 @@ fn add_arc<Z: Summer>(
     requires reads { (arc : Arc) → arc_at target.now.network.now number ≡ Some arc
         → ReadsAs target.now.network.now target.now.dest arc (from + count) (table_at tables.now) }
     requires limit { from + count ≤ END_LIMIT }
-    requires count { count ≤ 64 }
+    requires count { (1 ≤ count) × (count ≤ 64) }
+    ensures upper { (arc : Arc) → arc_at target.now.network.now number ≡ Some arc → (x : ℕ)
+        → x < count → slice_index part.new.upper x ≡ max (slice_index part.old.upper x)
+        (plain_sum arc (upper_in target.now.dest (table_at tables.now)) (from + x)) }
+    ensures lower { part.new.lower ≡ part.old.lower }
+    ensures choices { part.new.choices ≡ part.old.choices }
+{
+    let sums = &mut part.sums[..count];
+    sums_of(target, tables, broad, number, Bound::Upper, from, sums);
+    raise(&part.sums, &mut part.upper, count);
+}
+
+/// One arc more among those whose greatest sums are found. Upper sums that stay below a floor times
+/// the scale are left out.
+fn add_arc<Z: Summer>(
+    target: &Target,
+    tables: &Tables,
+    broad: &[Option<Box<Summers<Z>>>],
+    number: ArcId,
+    from: u32,
+    count: usize,
+    floor: Grain,
+    part: &mut Part,
+)
+    requires number { (1 ≤ number) × (number ≤ length target.now.network.now.arcs) }
+    requires nodes { length tables.now.fronts ≡ target.now.network.now.nodes }
+    requires broad { length broad.now ≡ length target.now.network.now.arcs }
+    requires target { IsTarget target.now }
+    requires fed { (arc : Arc) (two : Summers Z) → arc_at target.now.network.now number ≡ Some arc
+        → summers_at broad.now number ≡ Some two
+        → AreFed Z.state target.now.network.now target.now.dest arc (from + count) two }
+    requires reads { (arc : Arc) → arc_at target.now.network.now number ≡ Some arc
+        → ReadsAs target.now.network.now target.now.dest arc (from + count) (table_at tables.now) }
+    requires limit { from + count ≤ END_LIMIT }
+    requires count { (1 ≤ count) × (count ≤ 64) }
     ensures lower { (arc : Arc) → arc_at target.now.network.now number ≡ Some arc → (x : ℕ)
         → x < count → slice_index part.new.lower x ≡ max (slice_index part.old.lower x)
         (plain_sum arc (lower_in target.now.dest (table_at tables.now)) (from + x)) }
     ensures upper { (arc : Arc) → arc_at target.now.network.now number ≡ Some arc → (x : ℕ)
-        → x < count → slice_index part.new.upper x ≡ max (slice_index part.old.upper x)
-        (plain_sum arc (upper_in target.now.dest (table_at tables.now)) (from + x)) }
+        → x < count → IsRaised (target.now.network.now.scale * floor)
+        (slice_index part.old.upper x)
+        (plain_sum arc (upper_in target.now.dest (table_at tables.now)) (from + x))
+        (slice_index part.new.upper x) }
     ensures choices { (arc : Arc) → arc_at target.now.network.now number ≡ Some arc → (x : ℕ)
         → x < count → slice_index_or part.new.choices x None
         ≡ if nat_lt (slice_index part.old.lower x)
         (plain_sum arc (lower_in target.now.dest (table_at tables.now)) (from + x))
         then Some number else slice_index_or part.old.choices x None }
 {
-    let sums = &mut part.sums[..count];
-    sums_of(target, tables, broad, number, Bound::Lower, from, sums);
-    choose(
-        number,
-        &part.sums,
-        &mut part.lower,
-        &mut part.choices,
-        count,
-    );
-    let sums = &mut part.sums[..count];
-    sums_of(target, tables, broad, number, Bound::Upper, from, sums);
-    raise(&part.sums, &mut part.upper, count);
+    filling_laws();
+    let scale = target.network.scale();
+    let most = add_lower(target, tables, broad, number, from, count, part);
+    if is_far_below(most, scale, from + count as u32, floor) {
+        return;
+    }
+    add_upper(target, tables, broad, number, from, count, part);
 }
 
 /// The greatest sums of the arcs that leave a node, at so many budgets in a row from `from` on, and
-/// the least number of an arc that has the greatest lower one, where that is not 0.
+/// the least number of an arc that has the greatest lower one, where that is not 0. None of the
+/// greatest sums is below a floor times the scale, so arcs that stay below it are passed over.
 pub(crate) fn find_bests<Z: Summer>(
     target: &Target,
     tables: &Tables,
@@ -141,6 +221,7 @@ pub(crate) fn find_bests<Z: Summer>(
     node: NodeId,
     from: u32,
     count: usize,
+    floor: Grain,
     part: &mut Part,
 )
     requires node { IsNode target.now.network.now node }
@@ -152,7 +233,13 @@ pub(crate) fn find_bests<Z: Summer>(
     requires reads { ReadsGrid target.now.network.now target.now.dest node (from + count)
         (table_at tables.now) }
     requires limit { from + count ≤ END_LIMIT }
-    requires count { count ≤ 64 }
+    requires count { (1 ≤ count) × (count ≤ 64) }
+    requires lower_floor { (x : ℕ) → x < count → target.now.network.now.scale * floor
+        ≤ best_sum target.now.network.now (lower_in target.now.dest (table_at tables.now)) node
+        (from + x) }
+    requires upper_floor { (x : ℕ) → x < count → target.now.network.now.scale * floor
+        ≤ best_sum target.now.network.now (upper_in target.now.dest (table_at tables.now)) node
+        (from + x) }
     ensures lower { (x : ℕ) → x < count → slice_index part.new.lower x
         ≡ best_sum target.now.network.now (lower_in target.now.dest (table_at tables.now)) node
         (from + x) }
@@ -163,9 +250,15 @@ pub(crate) fn find_bests<Z: Summer>(
         ≡ choice_of target.now.network.now.arcs
         (λ arc. plain_sum arc (lower_in target.now.dest (table_at tables.now)) (from + x)) node }
 {
+    filling_laws();
     numbers_of_arcs();
     part.clear(count);
+    let to = from + count as u32;
     for number in target.network.leaving(node) {
-        add_arc(target, tables, broad, *number, from, count, part);
+        let arc = target.network.numbered(*number);
+        if is_beaten(tables, target.dest, arc, to, floor) {
+            continue;
+        }
+        add_arc(target, tables, broad, *number, from, count, floor, part);
     }
 }

@@ -47,7 +47,7 @@ pub(crate) fn summers_of<'a, Z: Summer>(
 
 /// The sums of an arc at budgets in a row, from `from` on, where the summer was fed the values at
 /// its head from a base on, and these are 0 below it.
-pub(crate) fn broad_sums<Z: Summer>(summer: &Z, least: u32, base: u32, from: u32, into: &mut [u128])
+pub fn broad_sums<Z: Summer>(summer: &Z, least: u32, base: u32, from: u32, into: &mut [u128])
     requires limit { from + length into.old ≤ END_LIMIT }
     requires known { from + length into.old
         ≤ least + base + length (Z.state summer.now).values }

@@ -4,18 +4,22 @@ ghost use Rattle.std.specs.Prelude.{slice_index_or, None};
 ghost use Rattle.sota_network.specs.Grid.{plain_sum, best_sum, choice_of};
 ghost use Rattle.sota_kept.specs.NodeTables.{AreReady, lower_in, upper_in};
 ghost use Rattle.sota_tables.specs.Views.{table_at};
+ghost use Rattle.sota_fill.specs.Certain.{EndsCertain};
 ghost use Rattle.sota_fill.specs.Fed.{AllFed, IsTarget};
 ghost use Rattle.sota_fill.specs.Fills.{IsLonger, IsUnfilled};
 
+use crate::beaten::last_value;
 use crate::bests::find_bests;
 use crate::broad::Summers;
+use crate::certain::certain_arc;
 use crate::laws::filling_laws;
 use crate::part::{PART, Part};
 use crate::target::Target;
+use sota_network::Network;
 use sota_online::Summer;
 use sota_sums::{Bound, round};
 use sota_tables::Tables;
-use sota_units::{NodeId, Steps};
+use sota_units::{ArcId, NodeId, Steps};
 use std::sync::ledger::Ledger;
 
 /// Adds so many entries of a node that is not the destination, from its known end on, by the best
@@ -53,6 +57,33 @@ fn push_bests<P: Ledger>(
     tables.push_extent(node, floors, ceilings, &part.choices[..count], pushes);
 }
 
+/// Adds so many entries of a node that is not the destination, from its known end on, where its
+/// last entry is certain and takes its first arc.
+fn push_certain<P: Ledger>(
+    tables: &mut Tables,
+    network: &Network,
+    dest: NodeId,
+    node: NodeId,
+    from: u32,
+    count: usize,
+    arc: ArcId,
+    part: &mut Part,
+    pushes: &mut Steps<P>,
+)
+    requires unfilled { IsUnfilled network.now dest node from (from + count) tables.old }
+    requires count { count ≤ 64 }
+    requires arc { 1 ≤ arc }
+    requires certain { EndsCertain network.now node arc (table_at tables.old node) }
+    ensures ready { AreReady network.now dest (table_at tables.new) }
+    ensures longer { IsLonger node count tables.old tables.new }
+    ensures count { pushes.new ≡ pushes.old + 3 * count }
+{
+    filling_laws();
+    part.certain(arc, count);
+    let ones = &part.floors[..count];
+    tables.push_extent(node, ones, ones, &part.choices[..count], pushes);
+}
+
 /// Adds so many entries of a node that is not the destination, from its known end on. All that
 /// these read is known.
 fn fill_part<Z: Summer, P: Ledger>(
@@ -77,8 +108,15 @@ fn fill_part<Z: Summer, P: Ledger>(
     ensures count { pushes.new ≡ pushes.old + 3 * count }
 {
     filling_laws();
-    find_bests(target, tables, broad, node, from, count, part);
-    push_bests(tables, target, node, from, count, part, pushes);
+    let (network, dest) = (target.network, target.dest);
+    match certain_arc(network, tables, node) {
+        Some(arc) => push_certain(tables, network, dest, node, from, count, arc, part, pushes),
+        None => {
+            let floor = last_value(tables.lower_row(node));
+            find_bests(target, tables, broad, node, from, count, floor, part);
+            push_bests(tables, target, node, from, count, part, pushes);
+        }
+    }
 }
 
 /// Fills an extent of a node that is not the destination: adds its entries from the known end up to

@@ -7,15 +7,22 @@ ghost use Rattle.sota_fill.specs.Laws.{Fillable};
 ghost use Rattle.sota_fill.specs.Fills.{ReadsGrid};
 
 use sota_kept::kept::{extents_fill, settled_entries};
-use sota_network::laws::{arcs_by_number, grid_encloses, grid_recurs};
+use sota_network::laws::{
+    arcs_by_number, choices_by_worth, entries_of_reads, grid_encloses, grid_recurs,
+    sums_and_scores, values_rise,
+};
 
 /// The laws of networks and tables that are used here.
 pub(crate) fn filling_laws()
     ensures { (net : Net) → IsNet net → Fillable net }
 {
     arcs_by_number();
+    choices_by_worth();
+    entries_of_reads();
     grid_encloses();
     grid_recurs();
+    sums_and_scores();
+    values_rise();
     settled_entries();
     extents_fill();
 }

@@ -1,14 +1,16 @@
 //! Fills the entries of a node at budgets in a row, by the sums of the arcs that leave it.
 #![tactic(auto)]
 
+mod beaten;
 mod bests;
 mod broad;
+mod certain;
 mod fill;
 pub mod laws;
 mod part;
 mod target;
 
-pub use broad::Summers;
+pub use broad::{Summers, broad_sums};
 pub use fill::fill_extent;
 pub use part::Part;
 pub use target::{Target, base_of};

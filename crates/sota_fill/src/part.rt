@@ -1,6 +1,7 @@
 // What is found for a node at budgets in a row.
 ghost use Rattle.std.specs.Prelude.{ℕ, ◌≡◌, ◌<◌, ◌≤◌, max, nat_lt, length};
 ghost use Rattle.std.specs.Prelude.{slice_index, slice_index_or, None, Some, if◌then◌else◌};
+ghost use Rattle.sota_units.specs.Rounding.{ONE};
 
 use sota_network::Choice;
 use sota_units::{ArcId, Grain};
@@ -44,6 +45,19 @@ impl Part {
         self.lower[..count].fill(0);
         self.upper[..count].fill(0);
         self.choices[..count].fill(Choice::NONE);
+    }
+
+    /// All values are one, and all choices this arc.
+    pub(crate) fn certain(&mut self, arc: ArcId, count: usize)
+        requires arc { 1 ≤ arc }
+        requires count { count ≤ 64 }
+        ensures floors { (x : ℕ) → x < count → slice_index self.new.floors x ≡ ONE }
+        ensures choices { (x : ℕ) → x < count
+            → slice_index_or self.new.choices x None ≡ Some arc }
+        ensures room { (length self.new.floors ≡ 64) × (length self.new.choices ≡ 64) }
+    {
+        self.floors[..count].fill(Grain::ONE);
+        self.choices[..count].fill(Choice::new(arc));
     }
 }
 

@@ -9,8 +9,8 @@ use Rattle.std.proofs.Math.Nat.{pow-suc, mul-mod_left}
 use Rattle.sota_block.specs.Product.{sum_below}
 use Rattle.sota_block.proofs.Sums.{sum_below-same, sum_below-zero, sum_below-add}
 use Rattle.sota_block.specs.Meeting.{met}
-use Rattle.sota_online.specs.Squares.{square, numbered, Holds}
-use Rattle.sota_online.specs.Products.{Landed, Added, Fits, HasRoom}
+use Rattle.sota_online.specs.Squares.{square, numbered, HoldsProducts}
+use Rattle.sota_online.specs.Products.{Landed, Added, Fits, FitsHalves}
 use Rattle.sota_block.specs.Meeting.{meeting}
 use Rattle.sota_block.proofs.Partners.{met-in, met-early, met-late}
 use Rattle.sota_block.specs.Meeting.{IsSkips}
@@ -83,8 +83,8 @@ module _ (masses values : List ℕ) (first k r R size blocks end : ℕ) (st : St
   weights : (j : ℕ) → meeting seg (λ a. 1) (length block) j ≡ square (numbered masses) (λ a. 1) size (k - size) k (k + j)
   weights j = ap (λ (n : ℕ). meeting seg (λ a. 1) n j) block_long ∙ landing masses seg (λ a. 1) (λ a. 1) size k j some fits is (λ a inside. refl)
 
-  pub level_step : (low high low' high' : List ℕ) (p : ℕ) → p < length low → Landed seg block k low high low' high' → length high ≡ length low → Holds (numbered masses) (λ a. get_or values a 0) (mixed first k r) R p (get_or low p 0) (get_or high p 0)
-      → Holds (numbered masses) (λ a. get_or values a 0) (mixed first k (r + 1)) R p (get_or low' p 0) (get_or high' p 0)
+  pub level_step : (low high low' high' : List ℕ) (p : ℕ) → p < length low → Landed seg block k low high low' high' → length high ≡ length low → HoldsProducts (numbered masses) (λ a. get_or values a 0) (mixed first k r) R p (get_or low p 0) (get_or high p 0)
+      → HoldsProducts (numbered masses) (λ a. get_or values a 0) (mixed first k (r + 1)) R p (get_or low' p 0) (get_or high' p 0)
   level_step low high low' high' p inside landed same held =
       rw add-one
       (⊎_elim (λ (early : p < k).
@@ -109,7 +109,7 @@ module _ (masses values : List ℕ) (first k r R size blocks end : ℕ) (st : St
       (cases_lt p k))
 
   -- and it fits
-  pub level_fits : (low high : ℕ) (j : ℕ) → sum masses ≤ SCALE_LIMIT → Holds (numbered masses) (λ a. get_or values a 0) (mixed first k r) R (k + j) low high
+  pub level_fits : (low high : ℕ) (j : ℕ) → sum masses ≤ SCALE_LIMIT → HoldsProducts (numbered masses) (λ a. get_or values a 0) (mixed first k r) R (k + j) low high
       → (low + meeting seg (λ a. 1) (length block) j * 4294967295 < 2 ^ 64) × (high + meeting seg (λ a. 1) (length block) j * 4294967295 < 2 ^ 64)
   level_fits low high j few held =
       let sq : ℕ = square (numbered masses) (λ a. 1) size (k - size) k (k + j) in
@@ -134,7 +134,7 @@ pub past_masses : (masses : List ℕ) (b : ℕ) → length masses < b → number
 past_masses masses b past = get_or_past masses (b - 1) 0 (omega arith)
 
 -- a row's stretch has room where the row has
-pub stretch_fits : (masses : List ℕ) (size at n : ℕ) (row : List ℕ) → n ≤ 2 * size → at + n ≤ length row → Fits masses size at row → HasRoom masses size (take n (drop at row))
+pub stretch_fits : (masses : List ℕ) (size at n : ℕ) (row : List ℕ) → n ≤ 2 * size → at + n ≤ length row → Fits masses size at row → FitsHalves masses size (take n (drop at row))
 stretch_fits masses size at n row few room fits k inside =
     let inside' : k < n = omega (arith, length-take n (drop at row)) in
     omega (arith, sub_at at n k row inside', fits k (omega arith) (omega arith))

@@ -8,7 +8,7 @@ use Rattle.sota_block.specs.Product.{sum_below}
 use Rattle.sota_block.proofs.Sums.{sum_below-same, sum_below-zero, sum_below-add, sum_below-plus, sum_below-list-le}
 use Rattle.sota_block.specs.Meeting.{met}
 use Rattle.sota_block.proofs.Partners.{met-in, met-early, met-late, met-cases}
-use Rattle.sota_online.specs.Squares.{square, levels, halved, whole_blocks, reached, numbered, Holds}
+use Rattle.sota_online.specs.Squares.{square, levels, halved, whole_blocks, reached, numbered, HoldsProducts}
 
 -- values up to `to`, in two parts
 pub met-parts : (f : ℕ → ℕ) (mid to p b : ℕ) → mid ≤ to → met f 0 to p b ≡ met f 0 mid p b + met f mid to p b
@@ -341,7 +341,7 @@ pub Holds-next : (m f : ℕ → ℕ) (R first k r size blocks p low high low' hi
     → low' + 4294967296 * high' ≡ low + 4294967296 * high + square m f size (k - size) k p
     → low' ≤ low + square m (λ a. 1) size (k - size) k p * 4294967295
     → high' ≤ high + square m (λ a. 1) size (k - size) k p * 4294967295
-    → Holds m f (mixed first k r) R p low high → Holds m f (mixed first k (suc r)) R p low' high'
+    → HoldsProducts m f (mixed first k r) R p low high → HoldsProducts m f (mixed first k (suc r)) R p low' high'
 Holds-next m f R first k r size blocks p low high low' high' st below sums lows highs held =
     let x = held.sum in
     let y = held.low_le in
@@ -353,19 +353,19 @@ Holds-next m f R first k r size blocks p low high low' high' st below sums lows 
     }
 
 -- levels that meet as much
-pub Holds-same : (m f reach reach' : ℕ → ℕ) (R p low high : ℕ) → ((g : ℕ → ℕ) → levels m g reach R p ≡ levels m g reach' R p) → Holds m f reach R p low high → Holds m f reach' R p low high
+pub Holds-same : (m f reach reach' : ℕ → ℕ) (R p low high : ℕ) → ((g : ℕ → ℕ) → levels m g reach R p ≡ levels m g reach' R p) → HoldsProducts m f reach R p low high → HoldsProducts m f reach' R p low high
 Holds-same m f reach reach' R p low high same held =
     let x = held.sum in
     let y = held.low_le in
     let z = held.high_le in
     record { sum = omega (arith, same f); low_le = omega (arith, same (λ a. 1)); high_le = omega (arith, same (λ a. 1)) }
 
-pub Holds-reach : (m f reach reach' : ℕ → ℕ) (R p low high : ℕ) → ((q : ℕ) → q < R → reach q ≡ reach' q) → Holds m f reach R p low high → Holds m f reach' R p low high
+pub Holds-reach : (m f reach reach' : ℕ → ℕ) (R p low high : ℕ) → ((q : ℕ) → q < R → reach q ≡ reach' q) → HoldsProducts m f reach R p low high → HoldsProducts m f reach' R p low high
 Holds-reach m f reach reach' R p low high same held =
     Holds-same m f reach reach' R p low high (λ g. levels-agree m g reach reach' R p (λ q below. ap (λ (n : ℕ). square m g (2 ^ q) 0 n p) (same q below))) held
 
 -- the levels from r on have no masses
-pub Holds-no_masses : (m f : ℕ → ℕ) (R first k r p low high : ℕ) → ((b : ℕ) → 2 ^ r ≤ b → m b ≡ 0) → Holds m f (mixed first k r) R p low high → Holds m f (reached first k) R p low high
+pub Holds-no_masses : (m f : ℕ → ℕ) (R first k r p low high : ℕ) → ((b : ℕ) → 2 ^ r ≤ b → m b ≡ 0) → HoldsProducts m f (mixed first k r) R p low high → HoldsProducts m f (reached first k) R p low high
 Holds-no_masses m f R first k r p low high none held =
     Holds-same m f (mixed first k r) (reached first k) R p low high (λ g. levels-agree m g (mixed first k r) (reached first k) R p (λ q below.
     ⊎_elim (λ (before : q < r). ap (λ (n : ℕ). square m g (2 ^ q) 0 n p) (mixed-done first k r q before))
@@ -375,7 +375,7 @@ Holds-no_masses m f R first k r p low high none held =
     (cases_lt q r))) held
 
 -- the values may change where no level has met them
-pub Holds-values : (m f g reach : ℕ → ℕ) (R n p low high : ℕ) → ((a : ℕ) → a < n → f a ≡ g a) → ((r : ℕ) → reach r ≤ n) → Holds m f reach R p low high → Holds m g reach R p low high
+pub Holds-values : (m f g reach : ℕ → ℕ) (R n p low high : ℕ) → ((a : ℕ) → a < n → f a ≡ g a) → ((r : ℕ) → reach r ≤ n) → HoldsProducts m f reach R p low high → HoldsProducts m g reach R p low high
 Holds-values m f g reach R n p low high same within held =
     let x = held.sum in
     let y = held.low_le in

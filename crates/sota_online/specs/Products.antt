@@ -11,8 +11,8 @@ abbrev pub most : List ℕ → ℕ → ℕ → ℕ
 most masses size place = meeting masses (λ _. 1) size place * 4294967295
 
 -- a row has room for either half of the products of masses and a block of values
-abbrev pub HasRoom : List ℕ → ℕ → List ℕ → Type 0
-HasRoom masses size row =
+abbrev pub FitsHalves : List ℕ → ℕ → List ℕ → Type 0
+FitsHalves masses size row =
     (k : ℕ) → k < length row → slice_index row k + most masses size k < 2 ^ 64
 
 -- Masses and a block of values that may be multiplied into the first of the places where they land
@@ -23,8 +23,8 @@ pub record IsSquare (masses values low high : List ℕ) : Type 0 where
   pub small : (a : ℕ) → slice_index values a ≤ ONE
   pub low_room : length low ≤ 2 * length values
   pub high_room : length high ≡ length low
-  pub low_fits : HasRoom masses (length values) low
-  pub high_fits : HasRoom masses (length values) high
+  pub low_fits : FitsHalves masses (length values) low
+  pub high_fits : FitsHalves masses (length values) high
 
 -- The sums there grow by the products, and each row by no more than either half of them
 pub record Added (masses values low high low' high' : List ℕ) : Type 0 where

@@ -47,7 +47,7 @@ pub struct BlockSummer {
 impl Model for BlockSummer {
     ghost use Rattle.std.specs.Prelude.{◌-◌, length, take};
     ghost use Rattle.sota_online.specs.Summer.{SummerState};
-    ghost use Rattle.sota_online.specs.Squares.{IsWorked};
+    ghost use Rattle.sota_online.specs.Squares.{IsWorkedOff};
 
     ghost Value = { SummerState };
 
@@ -57,8 +57,8 @@ impl Model for BlockSummer {
       room = length s.values.items - s.fed;
     } };
 
-    ghost invariant = { λ s. IsWorked s.masses.items s.skips.items s.first s.smallest s.values.items
-        s.fed s.low.items s.high.items s.thin.items s.wide.items };
+    ghost invariant = { λ s. IsWorkedOff s.masses.items s.skips.items s.first s.smallest
+        s.values.items s.fed s.low.items s.high.items s.thin.items s.wide.items };
 }
 
 impl Summer for BlockSummer {

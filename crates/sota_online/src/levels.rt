@@ -5,7 +5,8 @@ ghost use Rattle.sota_units.specs.Rounding.{ONE, SCALE_LIMIT};
 ghost use Rattle.sota_block.specs.Meeting.{IsSkips};
 ghost use Rattle.sota_block.specs.Product.{IsBlockLength, fold_count};
 ghost use Rattle.sota_online.specs.Products.{Fits, Landed};
-ghost use Rattle.sota_online.specs.Squares.{Holds, LEVELS, numbered, reached, square_counts};
+ghost use Rattle.sota_online.specs.Squares.{HoldsProducts, LEVELS, numbered, reached};
+ghost use Rattle.sota_online.specs.Squares.{square_counts};
 
 use crate::square::add_square;
 use sota_units::Steps;
@@ -40,11 +41,11 @@ pub(crate) fn work_off<M: Ledger>(
     requires thin_room { 2 * length masses.now + 16 ≤ length thin.old }
     requires wide_room { 6 * length masses.now ≤ length wide.old }
     requires held { (p : ℕ) → p < length low.old
-        → Holds (numbered masses.now) (λ a. slice_index values.now a)
+        → HoldsProducts (numbered masses.now) (λ a. slice_index values.now a)
         (λ r. reached first (length values.now - 1) r) LEVELS p
         (slice_index low.old p) (slice_index high.old p) }
     ensures held { (p : ℕ) → p < length low.new
-        → Holds (numbered masses.now) (λ a. slice_index values.now a)
+        → HoldsProducts (numbered masses.now) (λ a. slice_index values.now a)
         (λ r. reached first (length values.now) r) LEVELS p
         (slice_index low.new p) (slice_index high.new p) }
     ensures count { products.new

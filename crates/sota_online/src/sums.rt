@@ -33,7 +33,7 @@ pub(crate) fn plain_sums(masses: &[u32], values: &[u64], from: usize, into: &mut
         eight_sums(masses, values, from + at, &mut into[at..at + 8]);
     }
     let rest = 8 * whole;
-    single_sums(masses, values, from + rest, &mut into[rest..]);
+    few_sums(masses, values, from + rest, &mut into[rest..]);
 }
 
 // At eight positions: together where each of them reaches back over all masses.
@@ -50,6 +50,27 @@ fn eight_sums(masses: &[u32], values: &[u64], from: usize, into: &mut [u128])
         return crossed_sums(masses, values, from - 1, into);
     }
     single_sums(masses, values, from, into);
+}
+
+// At fewer than eight positions: as the last of eight where these reach back over all masses. One
+// or two are found sooner one by one.
+fn few_sums(masses: &[u32], values: &[u64], from: usize, into: &mut [u128])
+    requires few { sum masses.now ≤ SCALE_LIMIT }
+    requires few_places { length into.old < 8 }
+    requires known { from + length into.old ≤ length values.now + 1 }
+    ensures sums { (k : ℕ) → k < length into.old
+        → slice_index into.new k ≡ plain masses.now values.now (from + k) }
+    ensures within { (k : ℕ) → k < length into.old → slice_index into.new k < 2 ^ 97 }
+{
+    let end = from + into.len();
+    if into.len() > 2 && masses.len() + 9 <= end {
+        let mut eight = [0u128; 8];
+        crossed_sums(masses, values, end - 9, &mut eight);
+        let (_, last) = eight.split_at(8 - into.len());
+        into.copy_from_slice(last);
+    } else {
+        single_sums(masses, values, from, into);
+    }
 }
 
 // One position after the other.

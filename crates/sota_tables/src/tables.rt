@@ -147,6 +147,16 @@ impl Tables {
         self.upper.front(node.get() as usize - 1)
     }
 
+    /// Lends the choices of a node, from its base on.
+    pub fn choice_row(&self, node: NodeId) -> &[Choice]
+        requires { HasNode self.now node }
+        ensures value { result.now ≡ (table_at self.now node).choices }
+        ensures length { length result.now
+            ≡ (table_at self.now node).front - (table_at self.now node).base }
+    {
+        self.choices.front(node.get() as usize - 1)
+    }
+
     /// The lower bound at a budget that is known: one at the destination, and 0 where there is no
     /// entry.
     pub fn lower(&self, node: NodeId, budget: u32) -> Grain

@@ -1,23 +1,24 @@
-use Rattle.std.proofs.Common.{ℕ, ◌≡◌, ◌+◌, ◌<◌, max, take, length, slice_index, sym, ◌∙◌, ap, subst, arith}
-use Rattle.std.proofs.lemmas.List.{get_or_append_left}
-use Rattle.sota_fill.specs.Fed.{AreFed}
-use Rattle.sota_fill.proofs.Summed.{take-long, take-written}
+use Rattle.std.proofs.Common.{ℕ, ◌+◌, ◌*◌, ◌<◌, List, max, slice_index, inl, inr, ◌∙◌, ap, subst}
+use Rattle.sota_network.specs.Network.{Net}
+use Rattle.sota_network.specs.Grid.{plain_sum}
+use Rattle.sota_kept.specs.NodeTables.{upper_in}
+use Rattle.sota_tables.specs.Views.{table_at}
+use Rattle.sota_fill.proofs.Below.{far-upper}
 use Rattle.sota_fill.proofs.bests.add_arc.Goals as goal
 
-pub sums_of-requires-clause-fed : goal.sums_of-requires-clause-fed
-sums_of-requires-clause-fed g c = λ arc two at is.
-    let long : length (take c.args.count c.args.part.now.sums) ≡ c.args.count = take-long c.args.count c.args.part.now.sums (omega (arith, c.requires.count)) in
-    subst (λ (n : ℕ). AreFed g.Z.Summer.state c.args.target.now.network.now c.args.target.now.dest arc (c.args.from + n) two) (sym long) (c.requires.fed arc two at is)
-
-pub sums_of-requires-2-clause-fed : goal.sums_of-requires-2-clause-fed
-sums_of-requires-2-clause-fed g c = λ arc two at is.
-    let first : length c.sums_of.new.into ≡ c.args.count = c.sums_of.ensures.room ∙ take-long c.args.count c.args.part.now.sums (omega (arith, c.requires.count)) in
-    subst (λ (n : ℕ). AreFed g.Z.Summer.state c.args.target.now.network.now c.args.target.now.dest arc (c.args.from + n) two) (sym (take-written c.args.count c.sums_of.new.into _ first)) (c.requires.fed arc two at is)
+pub returns-then-is_far_below-clause-upper : goal.returns-then-is_far_below-clause-upper
+returns-then-is_far_below-clause-upper g c = λ arc at x h.
+    let net : Net = c.args.target.now.network.now in
+    let laws = c.filling_laws.ensures net c.scale-scale.ensures.valid in
+    let most : ℕ = c.add_lower-most.result in
+    let to : ℕ = c.args.from + c.args.count in
+    let far : most + net.scale * (2 * to) < net.scale * c.args.floor = subst (λ (q : ℕ). most + q * (2 * to) < q * c.args.floor) c.scale-scale.ensures.value (c.is_far_below.ensures c.if-is_far_below.true) in
+    inr (
+      ap (λ (us : List ℕ). slice_index us x) c.add_lower-most.ensures.upper,
+      far-upper net laws c.args.target.now.dest (table_at c.args.tables.now) arc c.args.from c.args.count x most c.args.floor (laws.arc c.args.number arc at) (c.requires.reads arc at) h (c.add_lower-most.ensures.last arc at) far,
+    )
 
 pub returns-clause-upper : goal.returns-clause-upper
 returns-clause-upper g c = λ arc at x h.
-    let first : length c.sums_of.new.into ≡ c.args.count = c.sums_of.ensures.room ∙ take-long c.args.count c.args.part.now.sums (omega (arith, c.requires.count)) in
-    let second : length c.sums_of-2.new.into ≡ c.args.count = c.sums_of-2.ensures.room ∙ take-written c.args.count c.sums_of.new.into _ first in
-    let less : x < length c.sums_of-2.new.into = omega (arith, h, second) in
-    c.raise.ensures.sums x h
-    ∙ ap (max (slice_index c.args.part.now.upper x)) (get_or_append_left c.sums_of-2.new.into _ 0 x less ∙ c.sums_of-2.ensures.sums arc at x (subst (λ (n : ℕ). x < n) (sym (take-written c.args.count c.sums_of.new.into _ first)) h))
+    let sum : ℕ = plain_sum arc (upper_in c.args.target.now.dest (table_at c.args.tables.now)) (c.args.from + x) in
+    inl (c.add_upper.ensures.upper arc at x h ∙ ap (λ (us : List ℕ). max (slice_index us x) sum) c.add_lower-most.ensures.upper)
