@@ -7,7 +7,7 @@ use Rattle.sota_bounds.specs.declared.ask.AskRegion.{AskRegion}
 use Rattle.sota_kept.specs.Ticks.{END_LIMIT, up_to, least_to}
 use Rattle.sota_kept.specs.NodeTables.{NodeTable, IsNodeTable, IsSettledAt, IsReadyAt, AreReady, AreSettled, known_end}
 use Rattle.sota_kept.specs.TableLists.{EntriesKept, EntriesSettled, table_of}
-use Rattle.sota_order.specs.Orders.{OrderView, CanBeMet, need_at, end_of}
+use Rattle.sota_order.specs.Orders.{OrderView, CanBeMet, need_at, order_end}
 use Rattle.sota_tables.specs.Views.{TablesView, lists_of, table_at}
 use Rattle.sota_fill.specs.Fed.{SummersList}
 use Rattle.sota_plan.specs.Laws.{RegionLaws}
@@ -35,8 +35,8 @@ module _ (table : TableIs) (net : Net) (run : RunView) (v : TablesView) (R : Reg
   need-here : (i : ℕ) → need_at run.order i ≡ slice_index run.region.need (i - 1)
   need-here i = ap (λ (w : OrderView). need_at w i) ready.order
 
-  end-here : (i : ℕ) → end_of run.order i ≡ known_end (table_at v i)
-  end-here i = ap (λ (w : OrderView). end_of w i) ready.order
+  end-here : (i : ℕ) → order_end run.order i ≡ known_end (table_at v i)
+  end-here i = ap (λ (w : OrderView). order_end w i) ready.order
 
   pub ready-agrees : Agrees net run.order v
   ready-agrees = record {

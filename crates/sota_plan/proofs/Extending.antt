@@ -11,7 +11,7 @@ use Rattle.sota_kept.specs.Laws.{ListLaws}
 use Rattle.sota_kept.specs.NodeTables.{NodeTable, IsNodeTable, AreReady, IsExtent, IsGrownAt, known_end}
 use Rattle.sota_kept.specs.TableLists.{AreTables, table_of}
 use Rattle.sota_kept.specs.Asks.{IsGrown, left_to_push}
-use Rattle.sota_order.specs.Orders.{OrderView, CanBeMet, IsReach, IsNext, IsMet, need_at, end_of, with_front}
+use Rattle.sota_order.specs.Orders.{OrderView, CanBeMet, IsReach, IsNext, IsMet, need_at, order_end, with_front}
 use Rattle.sota_order.specs.declared.order.Extent.{Extent}
 use Rattle.sota_tables.specs.Views.{TablesView, lists_of, SameNodes, table_at, room_of}
 use Rattle.sota_bounds.specs.declared.ask.AskRegion.{AskRegion}
@@ -71,7 +71,7 @@ going-first net dest first old before node at waiting agrees ready = record {
 
 -- an extent of an order is one of the tables
 abbrev ExtentIs : Net → Type 0
-ExtentIs net = (w : OrderView) (tables : ℕ → NodeTable) (i to : ℕ) → IsReach net w i to → ((j : ℕ) → IsNode net j → known_end (tables j) ≡ end_of w j) → IsExtent net w.dest tables i to
+ExtentIs net = (w : OrderView) (tables : ℕ → NodeTable) (i to : ℕ) → IsReach net w i to → ((j : ℕ) → IsNode net j → known_end (tables j) ≡ order_end w j) → IsExtent net w.dest tables i to
 
 next-extent : (net : Net) → ExtentIs net → (order : OrderView) (tables : TablesView) (extent : Extent) (dest : ℕ) → Agrees net order tables → IsNext net order extent → order.dest ≡ dest → IsExtent net dest (table_at tables) extent.node extent.to
 next-extent net law order tables extent dest agrees next at =
@@ -133,19 +133,19 @@ module _ (laws : ListLaws) (net : Net) (dest : ℕ) (first now next : OrderView)
   need-first : (i : ℕ) → need_at now i ≡ need_at first i
   need-first i = ap (λ (xs : List ℕ). slice_index xs (i - 1)) going.needs
 
-  new-end : (i : ℕ) → IsNode net i → end_of next i ≡ known_end (table_at new i)
+  new-end : (i : ℕ) → IsNode net i → order_end next i ≡ known_end (table_at new i)
   new-end i node =
-      ap (λ (w : OrderView). end_of w i) at
+      ap (λ (w : OrderView). order_end w i) at
       ∙ ⊎_elim
       (λ (here : i ≡ extent.node).
       let set-front : slice_index (set now.fronts (extent.node - 1) extent.to) (extent.node - 1) ≡ extent.to = get_or-set_same now.fronts (extent.node - 1) extent.to 0 (omega (arith, is.node.0, is.node.1, going.waiting.nodes.0)) in
       let base : slice_index now.bases (extent.node - 1) ≤ extent.to = omega (arith, is.from, is.some) in
-      let end : end_of (with_front now extent.node extent.to) extent.node ≡ extent.to = omega arith in
-      ap (end_of (with_front now extent.node extent.to)) here ∙ end ∙ sym stop ∙ ap (λ (k : ℕ). known_end (table_at new k)) (sym here))
+      let end : order_end (with_front now extent.node extent.to) extent.node ≡ extent.to = omega arith in
+      ap (order_end (with_front now extent.node extent.to)) here ∙ end ∙ sym stop ∙ ap (λ (k : ℕ). known_end (table_at new k)) (sym here))
       (λ (off : i ≡ extent.node → ⊥).
       let off' : i - 1 ≡ extent.node - 1 → ⊥ = λ z. off (omega (arith, node.0, is.node.0)) in
       let other : slice_index (set now.fronts (extent.node - 1) extent.to) (i - 1) ≡ slice_index now.fronts (i - 1) = get_or-set_other now.fronts (extent.node - 1) (i - 1) extent.to 0 off' in
-      let end : end_of (with_front now extent.node extent.to) i ≡ end_of now i = ap (λ (f : ℕ). max f (slice_index now.bases (i - 1))) other in
+      let end : order_end (with_front now extent.node extent.to) i ≡ order_end now i = ap (λ (f : ℕ). max f (slice_index now.bases (i - 1))) other in
       end ∙ going.agrees.ends i node ∙ ap known_end (sym (kept i node.0 off)))
       (cases_eq i extent.node)
 
@@ -208,8 +208,8 @@ module _ (laws : ListLaws) (net : Net) (dest : ℕ) (first now next : OrderView)
 pub going-met : (net : Net) (dest : ℕ) (first now : OrderView) (old tables : TablesView) (before pushed : ℕ) → Going net dest first now old tables before pushed → IsMet net now → (i : ℕ) → IsNode net i → need_at first i ≤ known_end (table_at tables i)
 going-met net dest first now old tables before pushed going met i node =
     let need : need_at now i ≡ need_at first i = ap (λ (xs : List ℕ). slice_index xs (i - 1)) going.needs in
-    let end : end_of now i ≡ known_end (table_at tables i) = going.agrees.ends i node in
-    let reached : need_at now i ≤ end_of now i = met i node in
+    let end : order_end now i ≡ known_end (table_at tables i) = going.agrees.ends i node in
+    let reached : need_at now i ≤ order_end now i = met i node in
     omega arith
 
 pub going-count : ListLaws → (net : Net) (dest : ℕ) (first now : OrderView) (old tables : TablesView) (before pushed : ℕ) → Going net dest first now old tables before pushed → IsMet net now → pushed ≡ before + 3 * left_of net.nodes first.needs (table_at old)

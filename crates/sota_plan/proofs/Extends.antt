@@ -8,7 +8,7 @@ use Rattle.sota_network.specs.declared.network.Arc.{Arc}
 use Rattle.sota_online.specs.Summer.{SummerState}
 use Rattle.sota_bounds.specs.declared.ask.AskRegion.{AskRegion}
 use Rattle.sota_kept.specs.NodeTables.{NodeTable, known_end}
-use Rattle.sota_order.specs.Orders.{OrderView, need_at, end_of}
+use Rattle.sota_order.specs.Orders.{OrderView, need_at, order_end}
 use Rattle.sota_tables.specs.Views.{TablesView, table_at, room_of}
 use Rattle.sota_fill.specs.declared.broad.Summers.{Summers}
 use Rattle.sota_fill.specs.Fed.{SummersList, summers_at}
@@ -18,7 +18,7 @@ use Rattle.sota_plan.specs.Summed.{SummedAs, values_below}
 -- an order and tables have the same of each node of the network, and there is room up to each need
 pub record Agrees (net : Net) (order : OrderView) (tables : TablesView) : Type 0 where
   pub nodes : length tables.fronts ≡ net.nodes
-  pub ends : (i : ℕ) → IsNode net i → end_of order i ≡ known_end (table_at tables i)
+  pub ends : (i : ℕ) → IsNode net i → order_end order i ≡ known_end (table_at tables i)
   pub room : (i : ℕ) → IsNode net i
       → need_at order i ≤ known_end (table_at tables i) + room_of tables i
 

@@ -43,16 +43,15 @@ sums-first net valid region is sums are (suc k) arc at =
     ∙ get-map (made_sums region) net.arcs k arc None at
     ∙ ap (λ (pairs : ℕ). first_sums_by pairs region.budget arc) (sym (is.pairs arc.tail tail))
 
-pub ready-run : TableIs → (net : Net) → IsNet net → (region copy : AskRegion) → IsRegion region net region.origin region.dest region.budget → region.budget ≤ BUDGET_LIMIT → copy ≡ region
+pub ready-run : TableIs → (net : Net) → IsNet net → (region : AskRegion) → IsRegion region net region.origin region.dest region.budget → region.budget ≤ BUDGET_LIMIT
     → (old : TableLists) (v : TablesView) → IsPrepared net region.origin region.dest region.budget old (lists_of v) → AreTables (lists_of v) net.nodes → IsSettled (lists_of v) net
     → ((i : ℕ) → IsNode net i → get_or region.need (i - 1) 0 - known_end (table_at v i) ≤ room_of v i)
     → (order : OrderView) → order ≡ record { dest = region.dest; fronts = v.fronts; bases = v.bases; needs = region.need }
     → (arcs : List Arc) → arcs ≡ net.arcs → (sums : List (Option ArcSums)) → sums ≡ map (λ (arc : Arc). first_sums_by (pairs_by_lists region.least region.need arc.tail) region.budget arc) arcs
-    → IsReady (record { region = copy; order = order; sums = sums }) v net
-ready-run table net valid region copy is within same old v prepared held settled room order at arcs all sums are =
+    → IsReady (record { region = region; order = order; sums = sums }) v net
+ready-run table net valid region is within old v prepared held settled room order at arcs all sums are =
     let sums-are : sums ≡ map (made_sums region) net.arcs = are ∙ ap (map (made_sums region)) all in
-    subst (λ (r : AskRegion). IsReady (record { region = r; order = order; sums = sums }) v net) (sym same)
-    (record {
+    record {
       valid = valid;
       tables_are = held;
       settled = settled;
@@ -69,4 +68,4 @@ ready-run table net valid region copy is within same old v prepared held settled
       order = at;
       arcs = ap (λ (xs : List (Option ArcSums)). length xs) sums-are ∙ length-map net.arcs (made_sums region);
       sums = sums-first net valid region is sums sums-are;
-    })
+    }

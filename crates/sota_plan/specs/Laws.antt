@@ -13,7 +13,7 @@ use Rattle.sota_bounds.specs.declared.ask.AskRegion.{AskRegion}
 use Rattle.sota_kept.specs.Laws.{ListLaws}
 use Rattle.sota_kept.specs.Ticks.{END_LIMIT, up_to, least_to}
 use Rattle.sota_kept.specs.NodeTables.{NodeTable, AreReady, IsExtent, known_end}
-use Rattle.sota_order.specs.Orders.{OrderView, HeadsSuffice, IsReach, end_of, need_at}
+use Rattle.sota_order.specs.Orders.{OrderView, HeadsSuffice, IsReach, order_end, need_at}
 
 -- the least times to a destination
 pub record TimeLaws (net : Net) (dest : ℕ) : Type 0 where
@@ -43,11 +43,11 @@ pub record RegionLaws (net : Net) (region : AskRegion) : Type 0 where
   pub dest_need : need net region.origin region.dest region.budget region.dest ≡ 0
   pub heads : (w : OrderView) (tables : ℕ → NodeTable) → w.dest ≡ region.dest
       → AreReady net region.dest tables
-      → ((i : ℕ) → IsNode net i → known_end (tables i) ≡ end_of w i)
+      → ((i : ℕ) → IsNode net i → known_end (tables i) ≡ order_end w i)
       → ((i : ℕ) → IsNode net i → need_at w i
       ≡ need net region.origin region.dest region.budget i)
       → HeadsSuffice net w
   pub none : pairs_at net region.origin region.dest region.budget region.dest ≡ 0
   pub extent : (w : OrderView) (tables : ℕ → NodeTable) (i to : ℕ) → IsReach net w i to
-      → ((j : ℕ) → IsNode net j → known_end (tables j) ≡ end_of w j)
+      → ((j : ℕ) → IsNode net j → known_end (tables j) ≡ order_end w j)
       → IsExtent net w.dest tables i to

@@ -124,7 +124,7 @@ pub record HasSpent (net : Net) (region : AskRegion) (before : TablesView) (arc 
 
 -- the summers of each broad arc whose tail missed entries were fed exactly the values that these
 -- entries rest on, and those of the other broad arcs none
-pub record IsSpent (before : TablesView) (run : RunView) (net : Net) : Type 0 where
+pub record AreSpent (before : TablesView) (run : RunView) (net : Net) : Type 0 where
   pub region : IsRegion run.region net run.region.origin run.region.dest run.region.budget
   pub arcs : length run.sums ≡ length net.arcs
   pub sums : (e : ℕ) (arc : Arc) → arc_at net e ≡ Some arc → is_broad net run.region arc ≡ true

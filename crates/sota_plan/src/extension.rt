@@ -3,7 +3,7 @@ ghost use Rattle.std.specs.Prelude.{◌≡◌, ◌+◌, ◌*◌, map};
 ghost use Rattle.sota_kept.specs.States.{grown_state, missing_in};
 ghost use Rattle.sota_kept.specs.TableLists.{IsSettled, state_of};
 ghost use Rattle.sota_tables.specs.Views.{lists_of};
-ghost use Rattle.sota_plan.specs.Runs.{IsReady, IsSpent, states_of};
+ghost use Rattle.sota_plan.specs.Runs.{IsReady, AreSpent, states_of};
 
 use crate::feeding::feed_extent;
 use crate::laws::region_laws;
@@ -42,7 +42,7 @@ fn extend_all<Z: Summer, M: Ledger, P: Ledger>(
     ensures count { pushes.new ≡ pushes.old
         + 3 * missing_in network.now region.now.origin region.now.dest region.now.budget
         (state_of (lists_of tables.old)) }
-    ensures spent { IsSpent tables.old (record {
+    ensures spent { AreSpent tables.old (record {
       region = region.now;
       order = order.new;
       sums = map (states_of Z.state) broad.new;
@@ -81,7 +81,7 @@ fn extend_all<Z: Summer, M: Ledger, P: Ledger>(
 pub fn extend<Z: Summer, M: Ledger, P: Ledger>(
     tables: &mut Tables,
     network: &Network,
-    run: &mut Run<Z>,
+    run: &mut Run<'_, Z>,
     products: &mut Steps<M>,
     pushes: &mut Steps<P>,
 )
@@ -93,13 +93,13 @@ pub fn extend<Z: Summer, M: Ledger, P: Ledger>(
     ensures count { pushes.new ≡ pushes.old
         + 3 * missing_in network.now run.old.region.origin run.old.region.dest
         run.old.region.budget (state_of (lists_of tables.old)) }
-    ensures spent { IsSpent tables.old run.new network.now }
+    ensures spent { AreSpent tables.old run.new network.now }
     ensures region { run.new.region ≡ run.old.region }
 {
     extend_all(
         tables,
         network,
-        &run.region,
+        run.region,
         &mut run.order,
         run.broad.as_mut_slice(),
         products,

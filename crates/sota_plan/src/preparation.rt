@@ -27,23 +27,8 @@ use sota_order::Order;
 use sota_order::laws::extents_of_tables;
 use sota_tables::Tables;
 use sota_tables::laws::views_are_lists;
-use sota_units::{Items, NoMemory};
+use sota_units::NoMemory;
 use std::alloc::Global;
-
-/// An equal region.
-fn copied(alloc: Global, region: &AskRegion) -> Result<AskRegion, NoMemory>
-    ensures { IfOk result (λ copy. copy ≡ region.now) }
-{
-    Ok(AskRegion {
-        origin: region.origin,
-        dest: region.dest,
-        budget: region.budget,
-        least: Items::new(region.least.as_slice().to_vec(alloc)?),
-        need: Items::new(region.need.as_slice().to_vec(alloc)?),
-        table_cells: region.table_cells,
-        broad_cells: region.broad_cells,
-    })
-}
 
 /// Takes the first three steps of an ask, and makes room up to each need. All but the rooms is the
 /// same where there is no memory for these.
@@ -121,12 +106,12 @@ fn order_of(
 /// need, two summers for each broad arc, and an order. The tables are those that are kept for the
 /// network, and the region is one of it within its limits. After NoMemory the tables are still kept
 /// for the network, and as before or as after these steps.
-pub fn prepare<Z: Summer>(
+pub fn prepare<'a, Z: Summer>(
     alloc: Global,
     network: &Network,
     tables: &mut Tables,
-    region: &AskRegion,
-) -> Result<Run<Z>, NoMemory>
+    region: &'a AskRegion,
+) -> Result<Run<'a, Z>, NoMemory>
     requires kept { IsKept (lists_of tables.old) network.now }
     requires region { IsRegion region.now network.now region.now.origin region.now.dest
         region.now.budget }
@@ -153,12 +138,11 @@ pub fn prepare<Z: Summer>(
     views_are_lists();
     let arcs = network.arcs();
     let bases = bases_of(alloc, region.least.as_slice())?;
-    let copy = copied(alloc, region)?;
     let broad = make_summers(alloc, arcs, region)?;
     make_room(tables, network, region, &bases)?;
     let order = order_of(alloc, network, tables, region)?;
     Ok(Run {
-        region: copy,
+        region,
         order,
         broad,
     })

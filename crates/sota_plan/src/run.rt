@@ -11,30 +11,30 @@ use std::marker::Model;
 /// two summers for each broad arc. One is fed the lower values at the arc's head, the other the
 /// upper ones.
 #[derive(Drop)]
-pub struct Run<Z: Summer> {
-    pub(crate) region: AskRegion,
+pub struct Run<'a, Z: Summer> {
+    pub(crate) region: &'a AskRegion,
     pub(crate) order: Order,
     pub(crate) broad: Vec<Option<Box<Summers<Z>>>>,
 }
 
-impl<Z: Summer> Model for Run<Z> {
+impl<'a, Z: Summer> Model for Run<'a, Z> {
     ghost use Rattle.std.specs.Prelude.{map};
     ghost use Rattle.sota_plan.specs.Runs.{RunView, states_of};
 
     ghost Value = { RunView };
 
     ghost view = { λ r. record {
-      region = r.region;
+      region = r.region.now;
       order = r.order;
       sums = map (states_of Z.state) r.broad.items;
     } };
 }
 
-impl<Z: Summer> Run<Z> {
+impl<'a, Z: Summer> Run<'a, Z> {
     /// The region of the ask.
-    pub fn region(&self) -> &AskRegion
+    pub fn region(&self) -> &'a AskRegion
         ensures { result.now ≡ self.now.region }
     {
-        &self.region
+        self.region
     }
 }

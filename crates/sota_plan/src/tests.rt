@@ -28,34 +28,46 @@ fn drawn(seed: &mut u64, limit: u32) -> u32
     ((*seed / 8_589_934_592) % u64::from(limit)) as u32
 }
 
-/// Up to fifty ticks with gaps of up to two between them. What their masses lack of the scale is
-/// lost.
-fn made_time(alloc: Global, scale: Scale, seed: &mut u64, count: usize) -> Result<Histogram, Fail>
+/// Up to fifty ticks with gaps of up to two between them. The last has the rest of the mass where
+/// it is to be whole, and else what the masses lack of the scale is lost.
+fn made_time(
+    alloc: Global,
+    scale: Scale,
+    seed: &mut u64,
+    count: usize,
+    whole: bool,
+) -> Result<Histogram, Fail>
     requires { count ≤ 50 }
     ensures { IfOk result (λ time. total time ≤ scale) }
 {
     let mut pairs = [(Tick(0), Mass(0)); 50];
     let mut tick = 1 + drawn(seed, 9);
+    let mut left = scale.get();
     for place in 0..count {
-        pairs[place] = (Tick(tick), Mass(1 + drawn(seed, 3)));
+        let is_rest = whole && place == count - 1;
+        let mass = if is_rest { left } else { 1 + drawn(seed, 3) };
+        pairs[place] = (Tick(tick), Mass(mass));
+        left = left.saturating_sub(mass);
         tick = tick.saturating_add(1 + drawn(seed, 3));
     }
     Ok(Histogram::at_most(alloc, scale, &pairs)?)
 }
 
-/// A network of arcs that go anywhere: one in three is certain, one has five ticks, and one fifty.
+/// A network of arcs that go anywhere: one in three has one tick, one five, and one fifty. By every
+/// other seed no mass is lost, and arriving in time becomes certain at greater budgets.
 fn made_network(alloc: Global, mut seed: u64, nodes: u32, arcs: u32) -> Result<Network, Fail>
     requires nodes { (1 ≤ nodes) × (nodes ≤ 1000) }
     requires arcs { arcs ≤ 1000 }
     ensures { IfOk result (λ network. network.nodes ≡ nodes) }
 {
     let scale = Scale::new(150).ok_or("a scale")?;
+    let whole = seed % 2 == 0;
     let mut list = Vec::new(alloc);
     for number in 0..arcs {
         let tail = NodeId(1 + drawn(&mut seed, nodes));
         let head = NodeId(1 + drawn(&mut seed, nodes));
         let count = [1, 5, 50][number as usize % 3];
-        let time = made_time(alloc, scale, &mut seed, count)?;
+        let time = made_time(alloc, scale, &mut seed, count, whole)?;
         list.push(Arc { tail, head, time })?;
     }
     Ok(Network::build(alloc, nodes, scale, list)?)

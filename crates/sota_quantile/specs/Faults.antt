@@ -1,27 +1,24 @@
 -- Why a need is refused: for what refuses an ask with the greatest budget.
-use Rattle.std.specs.Prelude.{ℕ, ◌&&◌, nat_le, Bool, true, false, List, codes, Option, Some, None}
-use Rattle.std.specs.Prelude.{if◌then◌else◌}
+use Rattle.std.specs.Prelude.{ℕ, Bool, true, false, List, codes, Option, Some, None}
 use Rattle.std.specs.Option.{option_map, option_or}
-use Rattle.sota_units.specs.Limits.{BUDGET_LIMIT}
 use Rattle.sota_network.specs.Network.{Net}
+use Rattle.sota_bounds.specs.Range as bounds
 use Rattle.sota_bounds.specs.Faults.{region_fault}
+use Rattle.sota_bounds.specs.declared.range.RangeFault.{RangeFault}
+use Rattle.sota_bounds.specs.declared.range.RangeFault.TheVariants as ranges
 use Rattle.sota_bounds.specs.declared.fault.RegionFault.{RegionFault}
 use Rattle.sota_bounds.specs.declared.fault.RegionFault.TheVariants as regions
 use Rattle.sota_quantile.specs.declared.need.NeedFault.{NeedFault}
 use Rattle.sota_quantile.specs.declared.need.NeedFault.TheVariants as needs
 
--- whether a node has this number
-abbrev pub is_node : Net → ℕ → Bool
-is_node net node = nat_le 1 node && nat_le node net.nodes
-
 -- the first number that is out of range, none where all are in it
+abbrev pub range_cause : RangeFault → NeedFault
+range_cause ranges.NoOrigin = needs.NoOrigin
+range_cause ranges.NoDest = needs.NoDest
+range_cause ranges.Budget = needs.Budget
+
 abbrev pub range_fault : Net → ℕ → ℕ → ℕ → Option NeedFault
-range_fault net origin dest most =
-    if is_node net origin then
-    (if is_node net dest then
-    (if nat_le most BUDGET_LIMIT then None else Some needs.Budget)
-    else Some needs.NoDest)
-    else Some needs.NoOrigin
+range_fault net origin dest most = option_map range_cause (bounds.range_fault net origin dest most)
 
 -- a region that is too large is one that cannot be planned for
 abbrev pub size_cause : RegionFault → NeedFault

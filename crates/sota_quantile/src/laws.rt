@@ -7,23 +7,15 @@ ghost use Rattle.sota_network.specs.Grid.{lo, hi};
 ghost use Rattle.sota_network.specs.Examples.{triangle, chain};
 ghost use Rattle.sota_quantile.specs.Needs.{ReachesWith, least_budget};
 
-use sota_network::laws::{grid_encloses, grid_recurs};
-
-/// More time makes no value of the grid less.
-pub fn values_rise()
-    ensures lower { (net : Net) (dest i t u : ℕ) → IsNet net → t ≤ u
-        → lo net dest i t ≤ lo net dest i u }
-    ensures upper { (net : Net) (dest i t u : ℕ) → IsNet net → t ≤ u
-        → hi net dest i t ≤ hi net dest i u }
-{
-    grid_recurs();
-}
+use sota_network::laws::{grid_encloses, sums_and_scores};
 
 /// Who reaches the destination with some chance within a budget does so within each greater one.
 pub fn more_time_reaches()
     ensures { (net : Net) (dest i c t u : ℕ) → t ≤ u → ReachesWith net dest i c t
         → ReachesWith net dest i c u }
-{}
+{
+    sums_and_scores();
+}
 
 /// The least budgets at which the two values of the grid are at least c, by decision trees: none
 /// has c within less time than the upper value asks for, and one has it within what the lower value

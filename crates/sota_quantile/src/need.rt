@@ -1,11 +1,9 @@
 // How much time one must allow, and why there is no answer.
 ghost use Rattle.std.specs.Prelude.{◌≡◌};
-ghost use Rattle.sota_network.specs.Network.{IsNet};
-ghost use Rattle.sota_quantile.specs.Faults.{is_node, range_fault, need_word, need_count};
+ghost use Rattle.sota_quantile.specs.Faults.{need_word, need_count};
 
-use sota_bounds::RegionFault;
-use sota_network::Network;
-use sota_units::{BUDGET_LIMIT, NoMemory, NodeId};
+use sota_bounds::{RangeFault, RegionFault};
+use sota_units::NoMemory;
 
 /// How much time one must allow for a confidence, in ticks.
 #[derive(Clone, Copy, Debug, PartialEq, Eq)]
@@ -69,6 +67,20 @@ impl From<NoMemory> for NeedFault {
     }
 }
 
+impl From<RangeFault> for NeedFault {
+    ghost use Rattle.sota_quantile.specs.Faults.{range_cause};
+
+    ghost from_gives = { λ range fault. fault ≡ range_cause range };
+
+    fn from(fault: RangeFault) -> Self {
+        match fault {
+            RangeFault::NoOrigin => NeedFault::NoOrigin,
+            RangeFault::NoDest => NeedFault::NoDest,
+            RangeFault::Budget => NeedFault::Budget,
+        }
+    }
+}
+
 impl From<RegionFault> for NeedFault {
     ghost use Rattle.sota_quantile.specs.Faults.{size_cause};
 
@@ -80,34 +92,5 @@ impl From<RegionFault> for NeedFault {
             RegionFault::BroadCells(count) => NeedFault::BroadCells(count),
             RegionFault::NoMemory => NeedFault::NoMemory,
         }
-    }
-}
-
-/// Whether a node of the network has this number.
-fn has_node(network: &Network, node: NodeId) -> bool
-    ensures value { result ≡ is_node network.now node }
-    ensures valid { IsNet network.now }
-{
-    (1..=network.nodes()).contains(&node.get())
-}
-
-/// The first number that is out of range.
-pub(crate) fn find_range_fault(
-    network: &Network,
-    origin: NodeId,
-    dest: NodeId,
-    most: u32,
-) -> Option<NeedFault>
-    ensures value { result ≡ range_fault network.now origin dest most }
-    ensures valid { IsNet network.now }
-{
-    if !has_node(network, origin) {
-        Some(NeedFault::NoOrigin)
-    } else if !has_node(network, dest) {
-        Some(NeedFault::NoDest)
-    } else if most > BUDGET_LIMIT {
-        Some(NeedFault::Budget)
-    } else {
-        None
     }
 }

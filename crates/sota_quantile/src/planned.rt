@@ -10,9 +10,9 @@ ghost use Rattle.sota_quantile.specs.Bounds.{HasBounds};
 ghost use Rattle.sota_quantile.specs.Faults.{size_fault, is_shortage};
 
 use crate::need::NeedFault;
+use sota_bounds::laws::asks_miss;
 use sota_bounds::{AskRegion, region};
 use sota_kept::kept::{needs_are_met, settled_entries};
-use sota_kept::laws::least_ticks;
 use sota_network::Network;
 use sota_network::laws::{grid_recurs, lists_by_number};
 use sota_online::BlockSummer;
@@ -71,8 +71,8 @@ fn fill<M: Ledger, P: Ledger>(
     ensures count { OnOk result (pushes.new ≡ pushes.old + 3 * region.now.table_cells) }
     ensures refused { OnErr result (pushes.new ≡ pushes.old) }
 {
+    asks_miss();
     grid_recurs();
-    least_ticks();
     lists_by_number();
     needs_are_met();
     settled_entries();

@@ -9,11 +9,13 @@ ghost use Rattle.sota_quantile.specs.Needs.{ReachesWith, least_budget};
 ghost use Rattle.sota_quantile.specs.Faults.{range_fault, need_fault, is_shortage};
 ghost use Rattle.sota_quantile.specs.declared.need.NeedFault.TheVariants as needs;
 
-use crate::laws::{needs_by_trees, values_rise};
-use crate::need::{Need, NeedFault, find_range_fault};
+use crate::laws::needs_by_trees;
+use crate::need::{Need, NeedFault};
 use crate::planned::plan;
 use crate::search::{Bound, find_least};
+use sota_bounds::check_range;
 use sota_network::Network;
+use sota_network::laws::values_rise;
 use sota_units::{Grain, NodeId, Steps};
 use std::alloc::Global;
 use std::sync::ledger::Ledger;
@@ -57,9 +59,7 @@ pub fn least_budgets<M: Ledger, P: Ledger>(
 {
     needs_by_trees();
     values_rise();
-    if let Some(fault) = find_range_fault(network, origin, dest, most) {
-        return Err(fault);
-    }
+    check_range(network, origin, dest, most)?;
     let tables = plan(alloc, network, origin, dest, most, products, pushes)?;
     Ok(Need {
         early: find_least(&tables, origin, Bound::Upper, confidence, most),

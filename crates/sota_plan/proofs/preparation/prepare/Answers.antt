@@ -13,6 +13,6 @@ returns-clause-ready g c =
     let v = c.make_room.new.tables in
     let prepared = c.make_room.ensures.prepared in
     let held : AreTables (lists_of v) net.nodes = subst (λ (n : ℕ). AreTables (lists_of v) n) prepared.nodes.0 (c.views_are_lists.ensures.tables v c.order_of.ensures.valid) in
-    ready-run c.views_are_lists.ensures.table net c.arcs-arcs.ensures.valid region c.in_ok-copy.copy c.requires.region c.requires.budget c.in_ok-copy.ensures (lists_of c.args.tables.now) v prepared held
+    ready-run c.views_are_lists.ensures.table net c.arcs-arcs.ensures.valid region c.requires.region c.requires.budget (lists_of c.args.tables.now) v prepared held
     (c.tables_stay_right.ensures.settled net region.dest (lists_of v) c.requires.dest prepared.to held c.make_room.ensures.ready)
     c.in_ok-make_room.ensures.room c.in_ok-order.order c.in_ok-order.ensures.value c.arcs-arcs.result.now c.arcs-arcs.ensures.value (map (states_of g.Z.Summer.state) c.in_ok-broad.broad.items) c.in_ok-broad.ensures
