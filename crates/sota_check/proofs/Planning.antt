@@ -15,8 +15,8 @@ use Rattle.sota_polfile.specs.declared.entry.PolicyEntry.{PolicyEntry}
 use Rattle.sota_polfile.specs.declared.row.PolicyRow.{PolicyRow}
 use Rattle.sota_polfile.specs.declared.head.PolicyHead.{PolicyHead}
 use Rattle.sota_polfile.specs.Table.{Table, entry_of}
-use Rattle.sota_check.specs.Certified.{value, Holds, IsCertified}
-use Rattle.sota_check.specs.Planned.{grid_entry, entry_if, ask_head, IsPlanned, AreGridRows, IsGridRow, IsPlanFile}
+use Rattle.sota_check.specs.Certified.{Entries, value_by, HoldsBy, IsCertifiedBy}
+use Rattle.sota_check.specs.Planned.{grid_entry, entry_if, ask_head, IsPlannedBy, IsPlanned, AreGridRows, IsGridRow, IsPlanFile}
 use Rattle.sota_check.proofs.Judged.{AreEntries, StandInRows}
 use Rattle.sota_check.proofs.Keeping.{value-dest, value-elsewhere}
 
@@ -32,30 +32,33 @@ pub record IsGrid (net : Net) (origin dest last : ℕ) : Type 0 where
   pub first : (worth : Arc → ℕ) (i e : ℕ) → choice_of net.arcs worth i ≡ Some e → IsFirstBest net worth i e
   pub closed : (i t j u : ℕ) → in_region net origin dest last i t ≡ true → Reads net i t j u → (j ≡ dest) ⊎ ((in_region net origin dest last j u ≡ true) ⊎ (reaches net dest dest j u ≡ false))
 
-module _ (net : Net) (origin dest last : ℕ) (table : Table) (grid : IsGrid net origin dest last) (plan : IsPlanned net origin dest last table) where
-  dest-is : table.head.dest ≡ dest
-  dest-is = ap (λ (h : PolicyHead). h.dest) plan.head
+module _ (net : Net) (origin dest last : ℕ) (head : PolicyHead) (plan : Entries) (grid : IsGrid net origin dest last) (planned : IsPlannedBy net origin dest last head plan) where
+  abbrev value : ℕ → ℕ → ℕ
+  value i t = value_by head.dest plan i t
 
-  region-parts : (i t : ℕ) → in_region net origin dest last i t ≡ true → (i ≢ dest) × (reaches net dest dest i t ≡ true)
+  dest-is : head.dest ≡ dest
+  dest-is = ap (λ (h : PolicyHead). h.dest) planned.head_is
+
+  pub region-parts : (i t : ℕ) → in_region net origin dest last i t ≡ true → (i ≢ dest) × (reaches net dest dest i t ≡ true)
   region-parts i t inside =
       let one = and_parts (not (i == dest)) (nat_le t last && (reaches net dest dest i t && reaches net dest i origin (last - t))) inside in
       let two = and_parts (nat_le t last) (reaches net dest dest i t && reaches net dest i origin (last - t)) one.1 in
       let three = and_parts (reaches net dest dest i t) (reaches net dest i origin (last - t)) two.1 in
       (eqb-false i dest (not-true (i == dest) one.0), three.0)
 
-  value-at : (i t : ℕ) → i ≢ dest → (b : Bool) → in_region net origin dest last i t ≡ b → entry_of table i t ≡ entry_if b (grid_entry net dest i t)
-  value-at i t off b is = plan.entries i t ∙ ap (λ (x : Bool). entry_if x (grid_entry net dest i t)) is
+  value-at : (i t : ℕ) → i ≢ dest → (b : Bool) → in_region net origin dest last i t ≡ b → plan i t ≡ entry_if b (grid_entry net dest i t)
+  value-at i t off b is = planned.entries i t ∙ ap (λ (x : Bool). entry_if x (grid_entry net dest i t)) is
 
-  apart : (i : ℕ) → i ≢ dest → i ≢ table.head.dest
+  apart : (i : ℕ) → i ≢ dest → i ≢ head.dest
   apart i off same = off (same ∙ dest-is)
 
-  value-inside : (i t : ℕ) → in_region net origin dest last i t ≡ true → value table i t ≡ lo net dest i t
+  value-inside : (i t : ℕ) → in_region net origin dest last i t ≡ true → value i t ≡ lo net dest i t
   value-inside i t inside =
       let off : i ≢ dest = (region-parts i t inside).0 in
-      value-elsewhere table i t (apart i off) (Some (grid_entry net dest i t)) (value-at i t off true inside)
+      value-elsewhere head.dest plan i t (apart i off) (Some (grid_entry net dest i t)) (value-at i t off true inside)
 
   -- where the destination is not reached in time, there is no value
-  value-none : (i t : ℕ) → i ≢ dest → reaches net dest dest i t ≡ false → value table i t ≡ lo net dest i t
+  value-none : (i t : ℕ) → i ≢ dest → reaches net dest dest i t ≡ false → value i t ≡ lo net dest i t
   value-none i t off late =
       let out : in_region net origin dest last i t ≡ false =
       ⊎_elim
@@ -63,63 +66,63 @@ module _ (net : Net) (origin dest last : ℕ) (table : Table) (grid : IsGrid net
       (λ (outside : in_region net origin dest last i t ≡ false). outside)
       (cases_Bool (in_region net origin dest last i t)) in
       let none : lo net dest i t ≡ 0 = omega (arith, grid.order i t, grid.below i t late) in
-      value-elsewhere table i t (apart i off) None (value-at i t off false out) ∙ sym none
+      value-elsewhere head.dest plan i t (apart i off) None (value-at i t off false out) ∙ sym none
 
-  value-whole : (i t : ℕ) → i ≡ dest → value table i t ≡ lo net dest i t
-  value-whole i t at = value-dest table i t (at ∙ sym dest-is) ∙ sym (grid.lower i t ∙ (rw (eq-eqb i dest at) refl))
+  value-whole : (i t : ℕ) → i ≡ dest → value i t ≡ lo net dest i t
+  value-whole i t at = value-dest head.dest plan i t (at ∙ sym dest-is) ∙ sym (grid.lower i t ∙ (rw (eq-eqb i dest at) refl))
 
   -- what an entry of the region reads
-  read-same : (i t : ℕ) → (i ≡ dest) ⊎ ((in_region net origin dest last i t ≡ true) ⊎ (reaches net dest dest i t ≡ false)) → value table i t ≡ lo net dest i t
+  read-same : (i t : ℕ) → (i ≡ dest) ⊎ ((in_region net origin dest last i t ≡ true) ⊎ (reaches net dest dest i t ≡ false)) → value i t ≡ lo net dest i t
   read-same i t (inl at) = value-whole i t at
   read-same i t (inr (inl inside)) = value-inside i t inside
   read-same i t (inr (inr late)) = ⊎_elim (λ (at : i ≡ dest). value-whole i t at) (λ (off : i ≡ dest → ⊥). value-none i t off late) (cases_eq i dest)
 
-  reads-same : (i t : ℕ) → in_region net origin dest last i t ≡ true → (j u : ℕ) → Reads net i t j u → value table j u ≡ lo net dest j u
+  reads-same : (i t : ℕ) → in_region net origin dest last i t ≡ true → (j u : ℕ) → Reads net i t j u → value j u ≡ lo net dest j u
   reads-same i t inside j u reads = read-same j u (grid.closed i t j u inside reads)
 
   -- the arc of an entry is the planner's choice by the values of the policy
-  holds-by : (i t : ℕ) → in_region net origin dest last i t ≡ true → (o : Option ℕ) → choice_of net.arcs (λ arc. plain_sum arc (value table) t) i ≡ o → Holds net table i t (grid_entry net dest i t)
+  holds-by : (i t : ℕ) → in_region net origin dest last i t ≡ true → (o : Option ℕ) → choice_of net.arcs (λ arc. plain_sum arc value t) i ≡ o → HoldsBy net value i t (grid_entry net dest i t)
   holds-by i t inside (Some e) is =
       let off : i ≢ dest = (region-parts i t inside).0 in
-      let sum : ℕ = best_sum net (value table) i t in
-      let lower : lo net dest i t ≡ floor_by net.scale sum = grid.made i t (value table) off (reads-same i t inside) in
-      let best : IsFirstBest net (λ arc. plain_sum arc (value table) t) i e = grid.first (λ arc. plain_sum arc (value table) t) i e is in
-      let number : unwrap_or (choice net dest i t) 0 ≡ e = ap (λ (o : Option ℕ). unwrap_or o 0) (grid.chosen i t (value table) off (reads-same i t inside) ∙ is) in
+      let sum : ℕ = best_sum net value i t in
+      let lower : lo net dest i t ≡ floor_by net.scale sum = grid.made i t value off (reads-same i t inside) in
+      let best : IsFirstBest net (λ arc. plain_sum arc value t) i e = grid.first (λ arc. plain_sum arc value t) i e is in
+      let number : unwrap_or (choice net dest i t) 0 ≡ e = ap (λ (o : Option ℕ). unwrap_or o 0) (grid.chosen i t value off (reads-same i t inside) ∙ is) in
       let below : floor_by net.scale sum * net.scale ≤ sum = div-mul-le_self sum net.scale in
       inr (best.arc, ap (arc_at net) number ∙ best.number, best.tail, (rw (best.greatest, lower) below))
   holds-by i t inside None is =
       let off : i ≢ dest = (region-parts i t inside).0 in
-      let nothing : best_sum net (value table) i t ≡ 0 = grid.none (λ arc. plain_sum arc (value table) t) i is in
-      let none : choice net dest i t ≡ None = grid.chosen i t (value table) off (reads-same i t inside) ∙ is in
+      let nothing : best_sum net value i t ≡ 0 = grid.none (λ arc. plain_sum arc value t) i is in
+      let none : choice net dest i t ≡ None = grid.chosen i t value off (reads-same i t inside) ∙ is in
       inl (
         ap (λ (o : Option ℕ). unwrap_or o 0) none,
-        grid.made i t (value table) off (reads-same i t inside) ∙ ap (floor_by net.scale) nothing ∙ zero-div net.scale,
+        grid.made i t value off (reads-same i t inside) ∙ ap (floor_by net.scale) nothing ∙ zero-div net.scale,
       )
 
-  holds-inside : (i t : ℕ) → in_region net origin dest last i t ≡ true → Holds net table i t (grid_entry net dest i t)
-  holds-inside i t inside = holds-by i t inside (choice_of net.arcs (λ arc. plain_sum arc (value table) t) i) refl
+  holds-inside : (i t : ℕ) → in_region net origin dest last i t ≡ true → HoldsBy net value i t (grid_entry net dest i t)
+  holds-inside i t inside = holds-by i t inside (choice_of net.arcs (λ arc. plain_sum arc value t) i) refl
 
-  entry-holds : (i t : ℕ) (entry : PolicyEntry) → (b : Bool) → in_region net origin dest last i t ≡ b → entry_if b (grid_entry net dest i t) ≡ Some entry → Holds net table i t entry
+  entry-holds : (i t : ℕ) (entry : PolicyEntry) → (b : Bool) → in_region net origin dest last i t ≡ b → entry_if b (grid_entry net dest i t) ≡ Some entry → HoldsBy net value i t entry
   entry-holds i t entry true inside at =
       let same : grid_entry net dest i t ≡ entry = cc in
-      subst (λ (x : PolicyEntry). Holds net table i t x) same (holds-inside i t inside)
+      subst (λ (x : PolicyEntry). HoldsBy net value i t x) same (holds-inside i t inside)
   entry-holds i t entry false outside at = absurd (cc)
 
-  pub plan-holds : IsCertified net table
+  pub plan-holds : IsCertifiedBy net head plan
   plan-holds = record {
-    nodes = ap (λ (h : PolicyHead). h.nodes) plan.head;
-    scale = ap (λ (h : PolicyHead). h.scale) plan.head;
-    entries = λ i t entry at. entry-holds i t entry (in_region net origin dest last i t) refl (sym (plan.entries i t) ∙ at);
+    nodes = ap (λ (h : PolicyHead). h.nodes) planned.head_is;
+    scale = ap (λ (h : PolicyHead). h.scale) planned.head_is;
+    entries = λ i t entry at. entry-holds i t entry (in_region net origin dest last i t) refl (sym (planned.entries i t) ∙ at);
   }
 
   -- the origin with the whole budget is in the region, where the destination is reached in time
-  origin-inside : origin ≢ dest → reaches net dest dest origin last ≡ true → in_region net origin dest last origin last ≡ true
+  pub origin-inside : origin ≢ dest → reaches net dest dest origin last ≡ true → in_region net origin dest last origin last ≡ true
   origin-inside off goes =
       let here : reaches net dest origin origin (last - last) ≡ true = grid.reach origin origin (last - last) 0 (empty {i = origin}) (omega arith) in
       let in_time : nat_le last last ≡ true = le-leb last last (let z : last ≤ last = omega arith in z) in
       rw (ne_eqb origin dest off, in_time, goes, here) refl
 
-  pub plan-bound : value table origin last ≡ lo net dest origin last
+  pub plan-bound : value origin last ≡ lo net dest origin last
   plan-bound =
       ⊎_elim
       (λ (at : origin ≡ dest). value-whole origin last at)
@@ -157,7 +160,7 @@ module _ (net : Net) (origin dest last : ℕ) (table : Table) (are : AreEntries 
       (cases_Bool (in_region net origin dest last i t))
 
   pub plan-made : table.head ≡ ask_head net origin dest last → IsPlanned net origin dest last table
-  plan-made head = record { head = head; entries = λ i t. entry-by i t (entry_of table i t) refl }
+  plan-made head = record { head_is = head; entries = λ i t. entry-by i t (entry_of table i t) refl }
 
 -- the rows of a planner's file are the grid's
 module _ (net : Net) (origin dest last : ℕ) (table : Table)

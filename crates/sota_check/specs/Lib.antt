@@ -1,5 +1,9 @@
 pub mod Certified
 pub mod Rejected
 pub mod Planned
+pub mod Bracketed
+pub mod BracketRejected
+pub mod PlannedBracket
 pub mod Examples
+pub mod Sides
 pub mod Words

@@ -9,6 +9,7 @@ use Rattle.sota_polfile.specs.Table.{Table, entry_of}
 use Rattle.sota_polfile.specs.declared.entry.PolicyEntry.{PolicyEntry}
 use Rattle.sota_polfile.specs.declared.head.PolicyHead.{PolicyHead}
 use Rattle.sota_polfile.specs.declared.row.PolicyRow.{PolicyRow}
+use Rattle.sota_check.specs.Certified.{Entries}
 
 -- the choice, 0 for none, and the lower value
 abbrev pub grid_entry : Net → ℕ → ℕ → ℕ → PolicyEntry
@@ -29,10 +30,15 @@ ask_head net origin dest last = record {
 }
 
 -- the head is the ask's, and the entries are the grid's, exactly in the region
-pub record IsPlanned (net : Net) (origin dest last : ℕ) (table : Table) : Type 0 where
-  pub head : table.head ≡ ask_head net origin dest last
-  pub entries : (i t : ℕ) → entry_of table i t
+pub record IsPlannedBy (net : Net) (origin dest last : ℕ) (head : PolicyHead) (plan : Entries)
+    : Type 0 where
+  pub head_is : head ≡ ask_head net origin dest last
+  pub entries : (i t : ℕ) → plan i t
       ≡ entry_if (in_region net origin dest last i t) (grid_entry net dest i t)
+
+abbrev pub IsPlanned : Net → ℕ → ℕ → ℕ → Table → Type 0
+IsPlanned net origin dest last table =
+    IsPlannedBy net origin dest last table.head (entry_of table)
 
 -- the same, row by row: each entry that stands in a row is the grid's and in the region, and each
 -- node and budget of the region has an entry in some row

@@ -26,18 +26,25 @@ entry_fault net v i t entry =
     if entry.arc == 0 then (if entry.value == 0 then None else Some (Value i t)) else
     arc_fault net v i t entry.value (arc_at net entry.arc)
 
+-- the first cause, where items are looked at in turn: they have the numbers from k on
+unfoldable pub first_cause : {Item Cause : Type 0} → (ℕ → Item → Option Cause) → ℕ → List Item
+    → Option Cause
+first_cause cause k [] = None
+first_cause cause k (item ∷ items) =
+    option_or (cause k item) (first_cause cause (k + 1) items)
+
 -- the cause of the first of these entries that does not hold: they are for node i and the budgets
 -- from t on
-unfoldable pub entries_fault : Net → (ℕ → ℕ → ℕ) → ℕ → ℕ → List PolicyEntry → Option Rejection
-entries_fault net v i t [] = None
-entries_fault net v i t (entry ∷ entries) =
-    option_or (entry_fault net v i t entry) (entries_fault net v i (t + 1) entries)
+abbrev pub entries_fault : Net → (ℕ → ℕ → ℕ) → ℕ → ℕ → List PolicyEntry → Option Rejection
+entries_fault net v i t entries = first_cause (entry_fault net v i) t entries
+
+-- the cause of the first entry of a row that does not hold, whichever row it is
+abbrev pub row_cause : Net → (ℕ → ℕ → ℕ) → ℕ → PolicyRow → Option Rejection
+row_cause net v k row = entries_fault net v row.node row.first row.entries
 
 -- the cause of the first entry of these rows that does not hold
-unfoldable pub rows_fault : Net → (ℕ → ℕ → ℕ) → List PolicyRow → Option Rejection
-rows_fault net v [] = None
-rows_fault net v (row ∷ rows) =
-    option_or (entries_fault net v row.node row.first row.entries) (rows_fault net v rows)
+abbrev pub rows_fault : Net → (ℕ → ℕ → ℕ) → List PolicyRow → Option Rejection
+rows_fault net v rows = first_cause (row_cause net v) 0 rows
 
 -- the first cause: the numbers of nodes, the denominators, and then the entries
 unfoldable pub rejection : Net → Table → Option Rejection

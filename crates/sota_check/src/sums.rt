@@ -29,7 +29,7 @@ pub(crate) fn arc_sum(table: &PolicyTable, arc: &Arc, budget: u32, near: &mut us
 }
 
 /// The worth of pairs whose head is the destination.
-fn whole_sum(pairs: &[(Tick, Mass)]) -> u128
+pub(crate) fn whole_sum(pairs: &[(Tick, Mass)]) -> u128
     requires { total pairs.now ≤ SCALE_LIMIT }
     ensures value { result ≡ sum_by (λ p. p.1 * ONE) pairs.now }
     ensures within { result < 2 ^ 94 }

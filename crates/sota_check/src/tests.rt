@@ -14,7 +14,7 @@ const HALF: u64 = 500_000_000_000_000_000;
 const CITY: [(u32, u64); 4] = [(1, HALF), (3, HALF + HALF / 2), (2, HALF), (2, HALF)];
 
 /// From 1 to 3 by way of 2 in 2 or 4 ticks, or straight in 3 with the chance 3/4, or else never.
-fn city(alloc: Global) -> Result<Network, NoMemory> {
+pub(crate) fn city(alloc: Global) -> Result<Network, NoMemory> {
     let mut arcs = Vec::new(alloc);
     arcs.push(Arc {
         tail: NodeId(1),

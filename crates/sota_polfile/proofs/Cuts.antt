@@ -14,12 +14,13 @@ use Rattle.sota_polfile.specs.declared.row.RowHead.{RowHead}
 use Rattle.sota_polfile.specs.Entry.{IsEntry}
 use Rattle.sota_polfile.specs.Table.{Table, IsHead, IsRow, IsTable, row_head, nodes}
 use Rattle.sota_polfile.specs.Spelling.{magic, numbers, spelled_head, spelled_entry, spelled_row, spelling}
-use Rattle.sota_polfile.specs.Places.{head_at, row_head_at, start, node_before}
-use Rattle.sota_polfile.specs.Faults.{is_head, is_unordered, row_fault, file_rows_fault, first_fault, cut_of}
+use Rattle.sota_polfile.specs.Places.{head_at, row_count, row_head_at, start, node_before}
+use Rattle.sota_polfile.specs.Faults.{is_head, is_unordered, numbers_fault, row_fault, file_rows_fault, first_fault, cut_of}
 use Rattle.sota_polfile.proofs.Rules.{Rises, fit_head, fit_numbers}
 use Rattle.sota_polfile.proofs.Parts.{table_rows, table_bound}
-use Rattle.sota_polfile.proofs.Rows.{row_fits, row_head_again, row_again, length-row, no_fault, in_row_head, in_entries, start_after, node_before_after}
-use Rattle.sota_polfile.proofs.Files.{length-head, head_again, clean_none, said, not_magic, short_head, bad_rows}
+use Rattle.sota_polfile.proofs.Rows.{row_fits, row_head_again, row_again, length-row, no_fault, in_entries, start_after, node_before_after}
+use Rattle.sota_polfile.proofs.FileFaults.{sized_short, among_passed, among_found, not_magic, short_head, bad_rows}
+use Rattle.sota_polfile.proofs.Files.{length-head, head_again, policy_clean_none, said}
 
 -- the first m bytes of a text that goes on for longer than its front
 front_stays : (front more : List ℕ) (m : ℕ) → length front ≤ m → take m (front ++ more) ≡ front ++ take (m - length front) more
@@ -34,7 +35,7 @@ module _ (bytes : List ℕ) (head : IsHead (head_at bytes)) (k m : ℕ) (row : P
   cut_in_row more text cut = elim (cases_lt m 12) [
     | inl short ↦
         let place : start bytes k ≡ start bytes k + 12 * (m / 12) = omega arith in
-        in_row_head bytes (head_at bytes) (start bytes k) (node_before bytes k) (k + 1) (omega arith) ∙ ap (λ (p : ℕ). Some (Truncated p)) place
+        sized_short (length bytes) (start bytes k) 12 (numbers_fault (head_at bytes) (node_before bytes k) (k + 1) (row_head_at bytes (start bytes k))) 12 (row_head_at bytes (start bytes k)).count (omega arith) ∙ ap (λ (p : ℕ). Some (Truncated p)) place
     | inr whole ↦
         let front = numbers (row.node ∷ row.first ∷ length row.entries ∷ []) in
         let after = flat_map spelled_entry row.entries ++ more in
@@ -69,19 +70,18 @@ module _ (bytes : List ℕ) (head : IsHead (head_at bytes)) (k m : ℕ) (row : P
 
 -- rows of which m bytes are there
 pub rows_cut : (bytes : List ℕ) (head : IsHead (head_at bytes)) (k m : ℕ) (rows : List PolicyRow) → AllByRecursion (IsRow (head_at bytes)) rows → Rises (node_before bytes k) (nodes rows) → drop (start bytes k) bytes ≡ take m (flat_map spelled_row rows) → length bytes ≡ start bytes k + m → m < length (flat_map spelled_row rows) → file_rows_fault bytes k (length rows) ≡ Some (Truncated (start bytes k + 12 * (m / 12)))
-unfolding file_rows_fault
 rows_cut bytes head k m [] are up text long cut = absurd (omega arith)
 rows_cut bytes head k m (row ∷ rows) are up text long cut = elim (cases_lt m (12 + 12 * length row.entries)) [
   | inl short ↦
       let here = cut_in_row bytes head k m row are.0 up.0 long (flat_map spelled_row rows) text short in
-      rw here refl
+      among_found (row_fault bytes) k (length rows) _ here
   | inr past ↦
       let all : length (flat_map spelled_row (row ∷ rows)) ≡ 12 + 12 * length row.entries + length (flat_map spelled_row rows) = omega (arith, length-append (spelled_row row) (flat_map spelled_row rows), length-row row) in
       let after = is_behind bytes head k m row are.0 up.0 long (flat_map spelled_row rows) text past in
       let left = m - (12 + 12 * length row.entries) in
       let others = rows_cut bytes head (k + 1) left rows are.1 (rw after.before up.1) after.text (rw after.next (omega arith)) (omega arith) in
       let place : start bytes (k + 1) + 12 * (left / 12) ≡ start bytes k + 12 * (m / 12) = rw after.next (omega arith) in
-      rw after.none (others ∙ ap (λ (p : ℕ). Some (Truncated p)) place)
+      among_passed (row_fault bytes) k (length rows) after.none ∙ others ∙ ap (λ (p : ℕ). Some (Truncated p)) place
 ]
 
 -- ---- the whole file
@@ -114,14 +114,14 @@ module _ (table : Table) (is : IsTable table) where
       let long : length bytes ≡ n = omega (arith, length-take n (spelling table)) in
       let head = head_again bytes (take (n - 32) text) table.head (length table.rows) is.head (omega (arith, table_bound table is, is.head.nodes.1)) stays in
       let rows = rows_cut bytes (rw head.head is.head) 0 (n - 32) table.rows (rw head.head (recursion_from_All (IsRow table.head) table.rows is.rows)) (table_rows table is).rising head.behind (omega arith) (omega arith) in
-      bad_rows bytes _ head.begins (omega arith) (ap is_head head.head ∙ fit_head table.head is.head) (rw head.rows rows)
+      bad_rows magic 32 (file_rows_fault bytes 0 (row_count bytes)) (start bytes (row_count bytes)) bytes _ head.begins (omega arith) (ap is_head head.head ∙ fit_head table.head is.head) (rw head.rows rows)
 
   pub cut_first : (n : ℕ) → n < length (spelling table) → first_fault (take n (spelling table)) ≡ Some (cut_of n)
   unfolding spelling
   cut_first n cut = elim (cases_lt n 8) [
     | inl short ↦
         let below : ltb n 8 ≡ true = lt-ltb _ _ short in
-        not_magic (take n (spelling table)) (starts_short (take n (spelling table)) (omega (arith, length-take n (spelling table)))) ∙ rw below refl
+        not_magic magic 32 _ _ (take n (spelling table)) (starts_short (take n (spelling table)) (omega (arith, length-take n (spelling table)))) ∙ rw below refl
     | inr eight ↦ elim (cases_lt n 32) [
       | inl short ↦
           let past : ltb n 8 ≡ false = le-ltb _ _ eight in
@@ -129,7 +129,7 @@ module _ (table : Table) (is : IsTable table) where
           let more = numbers (table.head.nodes ∷ table.head.dest ∷ table.head.origin ∷ table.head.budget ∷ table.head.scale ∷ length table.rows ∷ []) in
           let first : spelling table ≡ magic ++ (more ++ flat_map spelled_row table.rows) = ap (λ (t : List ℕ). t ++ flat_map spelled_row table.rows) (magic_first table.head (length table.rows)) in
           let stays : take n (spelling table) ≡ magic ++ take (n - 8) (more ++ flat_map spelled_row table.rows) = ap (take n) first ∙ front_stays magic (more ++ flat_map spelled_row table.rows) n eight in
-          short_head (take n (spelling table)) (starts_whole _ _ stays) (omega (arith, length-take n (spelling table))) ∙ rw (past, below) refl
+          short_head magic 32 _ _ (take n (spelling table)) (starts_whole _ _ stays) (omega (arith, length-take n (spelling table))) ∙ rw (past, below) refl
       | inr whole ↦
           let past : ltb n 8 ≡ false = le-ltb _ _ eight in
           let also : ltb n 32 ≡ false = le-ltb _ _ whole in
@@ -141,6 +141,6 @@ module _ (table : Table) (is : IsTable table) where
   pub cut_no_file : (other : Table) → IsTable other → (n : ℕ) → n < length (spelling table) → take n (spelling table) ≡ spelling other → ⊥
   cut_no_file other fits n cut same =
       let faulty = cut_first n cut in
-      let clean : first_fault (spelling other) ≡ None = clean_none (spelling other) (said other fits).clean in
+      let clean : first_fault (spelling other) ≡ None = policy_clean_none (spelling other) (said other fits).clean in
       let both : first_fault (take n (spelling table)) ≡ None = rw same clean in
       cc

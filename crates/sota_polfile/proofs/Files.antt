@@ -1,10 +1,9 @@
 -- A spelling is without fault and says its table, and bytes without fault are the spelling of what they say.
-use Rattle.std.proofs.Common.{◌≡◌, ℕ, ◌+◌, ◌*◌, ◌^◌, ◌≤◌, ◌<◌, Bool, true, false, not, ltb, List, [], ◌∷◌, ◌++◌, length, take, drop, Some, None, Result, Ok, Err, IfOk, All, refl, sym, ap, ◌∙◌, subst, inl, inr, arith}
+use Rattle.std.proofs.Common.{◌≡◌, ℕ, ◌+◌, ◌*◌, ◌^◌, ◌≤◌, ◌<◌, true, List, [], ◌∷◌, ◌++◌, length, take, drop, Some, None, Result, Ok, Err, IfOk, All, refl, sym, ap, ◌∙◌, subst, inl, inr, arith}
 use Rattle.std.specs.Prelude.{nat_eq}
 use Rattle.std.specs.List.{flat_map, starts_with}
 use Rattle.std.specs.Int.{w32, to_be_bytes}
 use Rattle.std.specs.Cmp.Lexicographic.{same_text}
-use Rattle.std.proofs.lemmas.Bool.{lt-ltb, le-ltb, ltb-false, not_from_true, not_from_false}
 use Rattle.std.proofs.lemmas.List.{append-nil, take-append-drop, length-append, length-drop, drop_all, get_or_past}
 use Rattle.std.proofs.lemmas.List.Elements.{All-from_recursion, recursion_from_All, All-get_or}
 use Rattle.std.proofs.lemmas.List.FromFn.{length-map-range_with_len}
@@ -12,7 +11,6 @@ use Rattle.std.proofs.lemmas.Bool.{cases_lt}
 use Rattle.sota_units.specs.Memory.{Answers}
 use Rattle.sota_polfile.specs.Words.{is_shortage}
 use Rattle.sota_polfile.specs.declared.fault.PolicyFault.{PolicyFault}
-use Rattle.sota_polfile.specs.declared.fault.PolicyFault.TheVariants.{Magic, Truncated, Range, Trailing}
 use Rattle.sota_polfile.specs.declared.head.PolicyHead.{PolicyHead}
 use Rattle.sota_polfile.specs.declared.row.PolicyRow.{PolicyRow}
 use Rattle.sota_polfile.specs.Table.{Table, IsHead, IsRow, IsTable, nodes, cells}
@@ -20,85 +18,18 @@ use Rattle.sota_polfile.specs.Spelling.{magic, numbers, spelled_head, spelled_ro
 use Rattle.sota_polfile.specs.Places.{number_at, head_at, row_count, start, node_before, rows_at, table_at}
 use Rattle.sota_polfile.specs.Faults.{is_head, file_rows_fault, first_fault, policy_of}
 use Rattle.sota_polfile.proofs.Numbers.{IsBytes, wide32, number_again, number_takes}
-use Rattle.sota_polfile.proofs.Rules.{head_fits, fit_head, first_of_found, test_failed, none_first, increasing}
+use Rattle.sota_polfile.proofs.Rules.{head_fits, fit_head, increasing}
 use Rattle.sota_polfile.proofs.Parts.{table_rows, table_bound}
 use Rattle.sota_polfile.proofs.Rows.{rows_again, rows_take, length-rows}
+use Rattle.sota_polfile.proofs.FileFaults.{Clean, clean_none, none_clean}
 use Rattle.sota_polfile.proofs.Replies.{fault_or_ok, refused, faultless}
 
-not_false : (b : Bool) → not b ≡ false → b ≡ true
-not_false true e = refl
-not_false false e = absurd cc
-
 -- bytes in which no fault is found
-pub record Clean (bytes : List ℕ) : Type 0 where
-  pub begins : starts_with nat_eq bytes magic ≡ true
-  pub long : 32 ≤ length bytes
-  pub head : is_head (head_at bytes) ≡ true
-  pub rows : file_rows_fault bytes 0 (row_count bytes) ≡ None
-  pub ends : length bytes ≤ start bytes (row_count bytes)
+abbrev pub CleanPolicy : List ℕ → Type 0
+CleanPolicy bytes = Clean magic 32 (file_rows_fault bytes 0 (row_count bytes)) (start bytes (row_count bytes)) bytes
 
-pub clean_none : (bytes : List ℕ) → Clean bytes → first_fault bytes ≡ None
-unfolding first_fault
-clean_none bytes clean =
-    let begins = not_from_true _ clean.begins in
-    let long : ltb (length bytes) 32 ≡ false = le-ltb _ _ clean.long in
-    let head = not_from_true _ clean.head in
-    let ends : ltb (start bytes (row_count bytes)) (length bytes) ≡ false = le-ltb _ _ clean.ends in
-    rw (begins, long, head, clean.rows, ends) refl
-
-pub none_clean : (bytes : List ℕ) → first_fault bytes ≡ None → Clean bytes
-unfolding first_fault
-none_clean bytes e =
-    let begins = test_failed (not (starts_with nat_eq bytes magic)) Magic _ e in
-    let long = test_failed (ltb (length bytes) 32) (Truncated 0) _ begins.1 in
-    let head = test_failed (not (is_head (head_at bytes))) (Range 0) _ long.1 in
-    let rows = none_first (file_rows_fault bytes 0 (row_count bytes)) _ head.1 in
-    let ends = test_failed (ltb (start bytes (row_count bytes)) (length bytes)) (Trailing (start bytes (row_count bytes))) _ rows.1 in
-    record {
-      begins = not_false _ begins.0;
-      long = ltb-false _ _ long.0;
-      head = not_false _ head.0;
-      rows = rows.0;
-      ends = ltb-false _ _ ends.0;
-    }
-
--- ---- each fault
-
-pub not_magic : (bytes : List ℕ) → starts_with nat_eq bytes magic ≡ false → first_fault bytes ≡ Some Magic
-unfolding first_fault
-not_magic bytes begins = first_of_found _ Magic _ (not_from_false _ begins)
-
-pub short_head : (bytes : List ℕ) → starts_with nat_eq bytes magic ≡ true → length bytes < 32 → first_fault bytes ≡ Some (Truncated 0)
-unfolding first_fault
-short_head bytes begins short =
-    let passed = not_from_true _ begins in
-    let cut : ltb (length bytes) 32 ≡ true = lt-ltb _ _ short in
-    rw (passed, cut) refl
-
-pub bad_head : (bytes : List ℕ) → starts_with nat_eq bytes magic ≡ true → 32 ≤ length bytes → is_head (head_at bytes) ≡ false → first_fault bytes ≡ Some (Range 0)
-unfolding first_fault
-bad_head bytes begins long head =
-    let passed = not_from_true _ begins in
-    let whole : ltb (length bytes) 32 ≡ false = le-ltb _ _ long in
-    let bad = not_from_false _ head in
-    rw (passed, whole, bad) refl
-
-pub bad_rows : (bytes : List ℕ) (fault : PolicyFault) → starts_with nat_eq bytes magic ≡ true → 32 ≤ length bytes → is_head (head_at bytes) ≡ true → file_rows_fault bytes 0 (row_count bytes) ≡ Some fault → first_fault bytes ≡ Some fault
-unfolding first_fault
-bad_rows bytes fault begins long head found =
-    let passed = not_from_true _ begins in
-    let whole : ltb (length bytes) 32 ≡ false = le-ltb _ _ long in
-    let good = not_from_true _ head in
-    rw (passed, whole, good, found) refl
-
-pub more_bytes : (bytes : List ℕ) → starts_with nat_eq bytes magic ≡ true → 32 ≤ length bytes → is_head (head_at bytes) ≡ true → file_rows_fault bytes 0 (row_count bytes) ≡ None → start bytes (row_count bytes) < length bytes → first_fault bytes ≡ Some (Trailing (start bytes (row_count bytes)))
-unfolding first_fault
-more_bytes bytes begins long head rows past =
-    let passed = not_from_true _ begins in
-    let whole : ltb (length bytes) 32 ≡ false = le-ltb _ _ long in
-    let good = not_from_true _ head in
-    let trailing : ltb (start bytes (row_count bytes)) (length bytes) ≡ true = lt-ltb _ _ past in
-    rw (passed, whole, good, rows, trailing) refl
+pub policy_clean_none : (bytes : List ℕ) → CleanPolicy bytes → first_fault bytes ≡ None
+policy_clean_none bytes clean = clean_none magic 32 (file_rows_fault bytes 0 (row_count bytes)) (start bytes (row_count bytes)) bytes clean
 
 -- ---- what is spelled is read
 
@@ -139,7 +70,7 @@ head_again bytes rest head count fits few e =
 
 -- a table's spelling has no fault, and says that table
 pub record Said (table : Table) : Type 0 where
-  pub clean : Clean (spelling table)
+  pub clean : CleanPolicy (spelling table)
   pub is : table_at (spelling table) ≡ table
 
 made : PolicyHead → List PolicyRow → Table
@@ -160,7 +91,7 @@ said table is =
         begins = head.begins;
         long = head.long;
         head = ap is_head head.head ∙ fit_head table.head is.head;
-        rows = rw head.rows all.none;
+        rows_pass = rw head.rows all.none;
         ends = rw head.rows (omega (arith, length-drop (start bytes (length table.rows)) bytes, ap length end));
       };
       is = ap (λ (h : PolicyHead). made h (rows_at bytes 0 (row_count bytes))) head.head ∙ ap (λ (n : ℕ). made table.head (rows_at bytes 0 n)) head.rows ∙ ap (made table.head) all.are;
@@ -170,7 +101,7 @@ pub read_again : (table : Table) → IsTable table → policy_of (spelling table
 unfolding policy_of
 read_again table is =
     let s = said table is in
-    rw (clean_none (spelling table) s.clean, s.is) refl
+    rw (policy_clean_none (spelling table) s.clean, s.is) refl
 
 -- ---- what is read was spelled
 
@@ -191,12 +122,12 @@ head_text bytes fits begins long =
     let from8 = nodes ∙ ap (λ (t : List ℕ). to_be_bytes w32 (number_at w32 bytes 8) ++ t) from12 in
     sym (take-append-drop 8 bytes) ∙ ap (λ (t : List ℕ). t ++ drop 8 bytes) (sym first) ∙ ap (λ (t : List ℕ). magic ++ t) from8
 
-pub clean_spelled : (bytes : List ℕ) → IsBytes bytes → Clean bytes → IsTable (table_at bytes) × (bytes ≡ spelling (table_at bytes))
+pub clean_spelled : (bytes : List ℕ) → IsBytes bytes → CleanPolicy bytes → IsTable (table_at bytes) × (bytes ≡ spelling (table_at bytes))
 unfolding spelling table_at start node_before
 clean_spelled bytes fits clean =
     let n = row_count bytes in
     let head = head_text bytes fits clean.begins clean.long in
-    let all = rows_take bytes 0 n fits clean.long clean.rows in
+    let all = rows_take bytes 0 n fits clean.long clean.rows_pass in
     let zero_more : 0 + n ≡ n = omega arith in
     let none : drop (start bytes (0 + n)) bytes ≡ [] = rw zero_more (drop_all (start bytes n) bytes clean.ends) in
     let rows : drop 32 bytes ≡ flat_map spelled_row (rows_at bytes 0 n) = all.text ∙ ap (λ (t : List ℕ). flat_map spelled_row (rows_at bytes 0 n) ++ t) none ∙ append-nil (flat_map spelled_row (rows_at bytes 0 n)) in
@@ -213,7 +144,7 @@ pub read_spelled : (bytes : List ℕ) (table : Table) → IsBytes bytes → poli
 unfolding policy_of
 read_spelled bytes table fits e =
     let p = fault_or_ok (first_fault bytes) (table_at bytes) table e in
-    rw p.1 at (clean_spelled bytes fits (none_clean bytes p.0))
+    rw p.1 at (clean_spelled bytes fits (none_clean magic 32 (file_rows_fault bytes 0 (row_count bytes)) (start bytes (row_count bytes)) bytes p.0))
 
 pub reads_spelled : (bytes : List ℕ) (r : Result Table PolicyFault) → IsBytes bytes → Answers is_shortage r (policy_of bytes) → IfOk r (λ table. IsTable table × (bytes ≡ spelling table))
 reads_spelled bytes (Ok table) fits given = read_spelled bytes table fits given
@@ -248,13 +179,13 @@ pub record Found (bytes : List ℕ) (head : PolicyHead) (count : ℕ) (rows : Li
 pub found_table : (bytes : List ℕ) (head : PolicyHead) (count : ℕ) (rows : List PolicyRow) (end : ℕ) → IsBytes bytes → Found bytes head count rows end → IsTable (record { head = head; rows = rows }) × (policy_of bytes ≡ Ok (record { head = head; rows = rows }))
 unfolding table_at policy_of made
 found_table bytes head count rows end fits found =
-    let clean : Clean bytes = record {
+    let clean : CleanPolicy bytes = record {
       begins = found.begins;
       long = found.long;
       head = ap is_head (sym found.head_is) ∙ found.in_range;
-      rows = rw found.count_is at found.none;
+      rows_pass = rw found.count_is at found.none;
       ends = rw (found.end_is, found.count_is) at found.ends;
     } in
     let rows_are : rows ≡ rows_at bytes 0 (row_count bytes) = found.rows_are ∙ ap (λ (n : ℕ). rows_at bytes 0 n) found.count_is in
     let is : table_at bytes ≡ record { head = head; rows = rows } = ap (λ (h : PolicyHead). made h (rows_at bytes 0 (row_count bytes))) (sym found.head_is) ∙ ap (made head) (sym rows_are) in
-    (subst (λ (t : Table). IsTable t) is (clean_spelled bytes fits clean).0, faultless (first_fault bytes) (table_at bytes) (clean_none bytes clean) ∙ ap (λ (t : Table). Ok t) is)
+    (subst (λ (t : Table). IsTable t) is (clean_spelled bytes fits clean).0, faultless (first_fault bytes) (table_at bytes) (policy_clean_none bytes clean) ∙ ap (λ (t : Table). Ok t) is)

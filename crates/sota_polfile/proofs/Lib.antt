@@ -2,9 +2,15 @@ pub mod Rules
 pub mod Parts
 pub mod Search
 pub mod Numbers
+pub mod Lists
 pub mod Entries
+pub mod FileFaults
 pub mod Rows
 pub mod Files
 pub mod Cuts
 pub mod Replies
 pub mod InRows
+pub mod BracketParts
+pub mod BracketRows
+pub mod BracketFiles
+pub mod BothVersions

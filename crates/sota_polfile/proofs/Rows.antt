@@ -1,13 +1,11 @@
 -- Rows that were spelled in a file stand there without fault, and rows without fault are what they spell.
-use Rattle.std.proofs.Common.{◌≡◌, ℕ, zero, suc, ◌+◌, ◌-◌, ◌*◌, ◌/◌, ◌^◌, ◌≤◌, ◌<◌, true, false, List, [], ◌∷◌, ◌++◌, length, drop, Option, Some, None, refl, sym, ap, ◌∙◌, append_assoc, add-one, ltb, arith}
+use Rattle.std.proofs.Common.{◌≡◌, ℕ, zero, suc, ◌+◌, ◌-◌, ◌*◌, ◌/◌, ◌^◌, ◌≤◌, ◌<◌, false, List, [], ◌∷◌, ◌++◌, length, drop, Option, Some, None, refl, sym, ap, ◌∙◌, append_assoc, add-one, arith}
 use Rattle.std.specs.List.{flat_map, sum_by, AllByRecursion}
 use Rattle.std.specs.Int.{w32, to_be_bytes}
-use Rattle.std.proofs.lemmas.Bool.{lt-ltb, le-ltb, ltb-false}
 use Rattle.std.proofs.lemmas.List.{length-append}
 use Rattle.std.proofs.lemmas.List.Sums.{sum_by-cons}
 use Rattle.std.proofs.lemmas.List.Elements.{All-from_recursion, recursion_from_All}
 use Rattle.std.proofs.lemmas.List.FromFn.{length-map-range_with_len}
-use Rattle.sota_polfile.specs.declared.fault.PolicyFault.{PolicyFault}
 use Rattle.sota_polfile.specs.declared.fault.PolicyFault.TheVariants.{Truncated}
 use Rattle.sota_polfile.specs.declared.head.PolicyHead.{PolicyHead}
 use Rattle.sota_polfile.specs.declared.row.PolicyRow.{PolicyRow}
@@ -19,7 +17,8 @@ use Rattle.sota_polfile.specs.Places.{number_at, head_at, row_head_at, entries_a
 use Rattle.sota_polfile.specs.Faults.{is_unordered, row_fault_at, row_fault, file_rows_fault, numbers_fault}
 use Rattle.sota_polfile.proofs.Numbers.{IsBytes, wide32, moved, room, number_again, number_takes, number_below}
 use Rattle.sota_polfile.proofs.Entries.{length-entries, entries_again, entries_take}
-use Rattle.sota_polfile.proofs.Rules.{Rises, first_of_found, test_failed, none_first, numbers_fit, fit_numbers}
+use Rattle.sota_polfile.proofs.FileFaults.{sized_none, sized_cut, sized_passes, among_passed, among_parts, among_none}
+use Rattle.sota_polfile.proofs.Rules.{Rises, numbers_fit, fit_numbers}
 
 -- the numbers of a row have four bytes each
 pub record Fits (row : RowHead) : Type 0 where
@@ -91,7 +90,7 @@ row_takes bytes at fits within =
     let head = row_head_takes bytes at fits (omega arith) in
     let start : at + 12 + 12 * 0 ≡ at + 12 = omega arith in
     let end : at + 12 + 12 * (0 + row.count) ≡ at + 12 + 12 * row.count = omega arith in
-    let entries = entries_take bytes (at + 12) 0 row.count fits (rw end within) in
+    let entries = entries_take bytes fits (at + 12) 0 row.count (rw end within) in
     let are = entries_at bytes (at + 12) row.count in
     let behind : drop (at + 12) bytes ≡ flat_map spelled_entry are ++ drop (at + 12 + 12 * row.count) bytes = ap (λ (p : ℕ). drop p bytes) (sym start) ∙ entries.0 ∙ ap (λ (p : ℕ). flat_map spelled_entry are ++ drop p bytes) end in
     let count : length are ≡ row.count = length-map-range_with_len _ 0 row.count in
@@ -102,35 +101,16 @@ row_takes bytes at fits within =
 
 -- a row that stands whole, with its numbers in order and in range, has no fault
 pub no_fault : (bytes : List ℕ) (head : PolicyHead) (at : ℕ) (before : Option ℕ) (number : ℕ) (row : RowHead) → row_head_at bytes at ≡ row → is_unordered before row.node ≡ false → IsRowHead head row → at + 12 + 12 * row.count ≤ length bytes → row_fault_at bytes head at before number ≡ None
-unfolding row_fault_at
 no_fault bytes head at before number row is up fits within =
-    let whole : ltb (length bytes) (at + 12) ≡ false = le-ltb _ _ (omega arith) in
     let count : (row_head_at bytes at).count ≡ row.count = ap (λ (r : RowHead). r.count) is in
-    let entries : ltb (length bytes) (at + 12 + 12 * (row_head_at bytes at).count) ≡ false = le-ltb _ _ (rw count within) in
     let good : numbers_fault head before number (row_head_at bytes at) ≡ None = rw is (fit_numbers head before number row up fits) in
-    rw (whole, good, entries) refl
-
--- the bytes end inside a row head
-pub in_row_head : (bytes : List ℕ) (head : PolicyHead) (at : ℕ) (before : Option ℕ) (number : ℕ) → length bytes < at + 12 → row_fault_at bytes head at before number ≡ Some (Truncated at)
-unfolding row_fault_at
-in_row_head bytes head at before number short = first_of_found _ (Truncated at) _ (lt-ltb _ _ short)
+    sized_none (length bytes) at 12 (numbers_fault head before number (row_head_at bytes at)) 12 (row_head_at bytes at).count good (rw count within)
 
 -- the bytes end inside an entry
 pub in_entries : (bytes : List ℕ) (head : PolicyHead) (at : ℕ) (before : Option ℕ) (number : ℕ) (row : RowHead) → row_head_at bytes at ≡ row → numbers_fault head before number row ≡ None → at + 12 ≤ length bytes → length bytes < at + 12 + 12 * row.count → row_fault_at bytes head at before number ≡ Some (Truncated (at + 12 + 12 * ((length bytes - (at + 12)) / 12)))
-unfolding row_fault_at
 in_entries bytes head at before number row is good whole short =
-    let long : ltb (length bytes) (at + 12) ≡ false = le-ltb _ _ whole in
     let count : (row_head_at bytes at).count ≡ row.count = ap (λ (r : RowHead). r.count) is in
-    let cut : ltb (length bytes) (at + 12 + 12 * (row_head_at bytes at).count) ≡ true = lt-ltb _ _ (rw count short) in
-    let fine : numbers_fault head before number (row_head_at bytes at) ≡ None = rw is good in
-    rw (long, fine, cut) refl
-
--- the numbers of a whole row head are at fault
-pub in_numbers : (bytes : List ℕ) (head : PolicyHead) (at : ℕ) (before : Option ℕ) (number : ℕ) (fault : PolicyFault) → numbers_fault head before number (row_head_at bytes at) ≡ Some fault → at + 12 ≤ length bytes → row_fault_at bytes head at before number ≡ Some fault
-unfolding row_fault_at
-in_numbers bytes head at before number fault found whole =
-    let long : ltb (length bytes) (at + 12) ≡ false = le-ltb _ _ whole in
-    rw (long, found) refl
+    sized_cut (length bytes) at 12 (numbers_fault head before number (row_head_at bytes at)) 12 (row_head_at bytes at).count (rw is good) whole (rw count short)
 
 -- what a row without fault keeps to
 pub record Passes (bytes : List ℕ) (head : PolicyHead) (at : ℕ) (before : Option ℕ) : Type 0 where
@@ -139,14 +119,11 @@ pub record Passes (bytes : List ℕ) (head : PolicyHead) (at : ℕ) (before : Op
   pub within : at + 12 + 12 * (row_head_at bytes at).count ≤ length bytes
 
 pub passes : (bytes : List ℕ) (head : PolicyHead) (at : ℕ) (before : Option ℕ) (number : ℕ) → row_fault_at bytes head at before number ≡ None → Passes bytes head at before
-unfolding row_fault_at
 passes bytes head at before number e =
     let row = row_head_at bytes at in
-    let whole = test_failed (ltb (length bytes) (at + 12)) (Truncated at) _ e in
-    let good = none_first (numbers_fault head before number row) _ whole.1 in
-    let entries = test_failed (ltb (length bytes) (at + 12 + 12 * row.count)) (Truncated (at + 12 + 12 * ((length bytes - (at + 12)) / 12))) _ good.1 in
-    let fits = numbers_fit head before number row good.0 in
-    record { up = fits.0; fits = fits.1; within = ltb-false _ _ entries.0 }
+    let parts = sized_passes (length bytes) at 12 (numbers_fault head before number row) 12 row.count e in
+    let fits = numbers_fit head before number row parts.0 in
+    record { up = fits.0; fits = fits.1; within = parts.1 }
 
 pub start_after : (bytes : List ℕ) (k : ℕ) → start bytes (k + 1) ≡ start bytes k + 12 + 12 * (row_head_at bytes (start bytes k)).count
 unfolding start
@@ -155,18 +132,6 @@ start_after bytes k = rw add-one refl
 pub node_before_after : (bytes : List ℕ) (k : ℕ) → node_before bytes (k + 1) ≡ Some (row_head_at bytes (start bytes k)).node
 unfolding node_before
 node_before_after bytes k = rw add-one refl
-
-pub file_rows_passed : (bytes : List ℕ) (k n : ℕ) → row_fault bytes k ≡ None → file_rows_fault bytes k (suc n) ≡ file_rows_fault bytes (k + 1) n
-unfolding file_rows_fault
-file_rows_passed bytes k n none = rw none refl
-
-pub file_rows_found : (bytes : List ℕ) (k n : ℕ) (fault : PolicyFault) → row_fault bytes k ≡ Some fault → file_rows_fault bytes k (suc n) ≡ Some fault
-unfolding file_rows_fault
-file_rows_found bytes k n fault found = rw found refl
-
-pub file_rows_done : (bytes : List ℕ) (k : ℕ) → file_rows_fault bytes k 0 ≡ None
-unfolding file_rows_fault
-file_rows_done bytes k = refl
 
 -- ---- rows one after the other
 
@@ -177,8 +142,7 @@ pub record AllStand (bytes rest : List ℕ) (k : ℕ) (rows : List PolicyRow) : 
   pub behind : drop (start bytes (k + length rows)) bytes ≡ rest
 
 pub rows_again : (bytes rest : List ℕ) (k : ℕ) (rows : List PolicyRow) → IsHead (head_at bytes) → AllByRecursion (IsRow (head_at bytes)) rows → Rises (node_before bytes k) (nodes rows) → drop (start bytes k) bytes ≡ flat_map spelled_row rows ++ rest → AllStand bytes rest k rows
-unfolding file_rows_fault
-rows_again bytes rest k [] head are up e = record { none = refl; are = refl; behind = rw (zero_more k) e }
+rows_again bytes rest k [] head are up e = record { none = among_none (row_fault bytes) k; are = refl; behind = rw (zero_more k) e }
   where
     zero_more : (k : ℕ) → k + 0 ≡ k
     zero_more k = omega arith
@@ -193,7 +157,7 @@ rows_again bytes rest k (row ∷ rows) head are up e =
     let here : row_fault bytes k ≡ None = no_fault bytes (head_at bytes) at (node_before bytes k) (k + 1) (row_head row) one.numbers up.0 are.0.numbers one.within in
     let end : k + suc (length rows) ≡ k + 1 + length rows = omega arith in
     record {
-      none = rw here others.none;
+      none = among_passed (row_fault bytes) k (length rows) here ∙ others.none;
       are = rw (one.is, others.are) refl;
       behind = rw end others.behind;
     }
@@ -206,7 +170,6 @@ pub record AllPass (bytes : List ℕ) (k n : ℕ) : Type 0 where
   pub up : Rises (node_before bytes k) (nodes (rows_at bytes k n))
 
 pub rows_take : (bytes : List ℕ) (k n : ℕ) → IsBytes bytes → start bytes k ≤ length bytes → file_rows_fault bytes k n ≡ None → AllPass bytes k n
-unfolding file_rows_fault
 rows_take bytes k zero fits within none =
     let same : k + 0 ≡ k = omega arith in
     record { text = rw same refl; within = rw same within; are = tt; up = tt }
@@ -214,7 +177,7 @@ rows_take bytes k (suc n) fits within none =
     let at = start bytes k in
     let head = row_head_at bytes at in
     let row = row_at bytes at in
-    let parts = none_first (row_fault bytes k) _ none in
+    let parts = among_parts (row_fault bytes) k n none in
     let here = passes bytes (head_at bytes) at (node_before bytes k) (k + 1) parts.0 in
     let one = row_takes bytes at fits here.within in
     let next = start_after bytes k in

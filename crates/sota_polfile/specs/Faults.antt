@@ -65,34 +65,48 @@ parts_fault head rows =
     first_of (fault_if (not (is_head head)) (Range 0)
     ∷ rows_fault head None 1 (map row_head rows) ∷ [])
 
--- the fault of the row at this place in a file
-unfoldable pub row_fault_at : List ℕ → PolicyHead → ℕ → Option ℕ → ℕ → Option PolicyFault
+-- the fault of a row at this place in bytes of this length: so many bytes and the row's numbers
+-- stand before its entries, which are of one size
+unfoldable pub sized_fault : ℕ → ℕ → ℕ → Option PolicyFault → ℕ → ℕ → Option PolicyFault
+sized_fault long at front numbers size count =
+    first_of (fault_if (nat_lt long (at + front)) (Truncated at)
+    ∷ numbers
+    ∷ fault_if (nat_lt long (at + front + size * count))
+    (Truncated (at + front + size * ((long - (at + front)) / size)))
+    ∷ [])
+
+abbrev pub row_fault_at : List ℕ → PolicyHead → ℕ → Option ℕ → ℕ → Option PolicyFault
 row_fault_at bytes head at before number =
     let row = row_head_at bytes at in
-    let entries = at + 12 in
-    first_of (fault_if (nat_lt (length bytes) entries) (Truncated at)
-    ∷ numbers_fault head before number row
-    ∷ fault_if (nat_lt (length bytes) (entries + 12 * row.count))
-    (Truncated (entries + 12 * ((length bytes - entries) / 12)))
-    ∷ [])
+    sized_fault (length bytes) at 12 (numbers_fault head before number row) 12 row.count
 
 abbrev pub row_fault : List ℕ → ℕ → Option PolicyFault
 row_fault bytes k = row_fault_at bytes (head_at bytes) (start bytes k) (node_before bytes k) (k + 1)
 
--- the fault of the first row that has one, of n rows from row k on
-unfoldable pub file_rows_fault : List ℕ → ℕ → ℕ → Option PolicyFault
-file_rows_fault bytes k n = first_of (map (row_fault bytes) (range_with_len k n))
+-- the first fault that there is at n numbers from k on
+unfoldable pub fault_among : (ℕ → Option PolicyFault) → ℕ → ℕ → Option PolicyFault
+fault_among fault k n = first_of (map fault (range_with_len k n))
 
--- the first fault of bytes, none where they are a policy file
-unfoldable pub first_fault : List ℕ → Option PolicyFault
-first_fault bytes =
-    let end = start bytes (row_count bytes) in
-    first_of (fault_if (not (starts_with nat_eq bytes magic)) Magic
-    ∷ fault_if (nat_lt (length bytes) 32) (Truncated 0)
+-- the fault of the first row that has one, of n rows from row k on
+abbrev pub file_rows_fault : List ℕ → ℕ → ℕ → Option PolicyFault
+file_rows_fault bytes k n = fault_among (row_fault bytes) k n
+
+-- the first fault of bytes: they begin with the magic, have a head of this length, and then rows
+-- with this first fault up to this end
+unfoldable pub file_fault : List ℕ → ℕ → Option PolicyFault → ℕ → List ℕ → Option PolicyFault
+file_fault begin front rows end bytes =
+    first_of (fault_if (not (starts_with nat_eq bytes begin)) Magic
+    ∷ fault_if (nat_lt (length bytes) front) (Truncated 0)
     ∷ fault_if (not (is_head (head_at bytes))) (Range 0)
-    ∷ file_rows_fault bytes 0 (row_count bytes)
+    ∷ rows
     ∷ fault_if (nat_lt end (length bytes)) (Trailing end)
     ∷ [])
+
+-- none where they are a policy file
+abbrev pub first_fault : List ℕ → Option PolicyFault
+first_fault bytes =
+    let count = row_count bytes in
+    file_fault magic 32 (file_rows_fault bytes 0 count) (start bytes count) bytes
 
 -- the fault that was found, or this value where none was
 abbrev pub fault_or : {T : Type 0} → Option PolicyFault → T → Result T PolicyFault

@@ -5,3 +5,5 @@ pub mod Places
 pub mod Faults
 pub mod Words
 pub mod Limits
+pub mod Bracket
+pub mod BracketFile

@@ -51,10 +51,14 @@ pub record IsTable (table : Table) : Type 0 where
 abbrev pub cells : Table → ℕ
 cells table = sum_by (λ row. length row.entries) table.rows
 
--- the entry of a row for a budget: its entries are for the budgets first, first + 1 and so on
+-- the entry for a budget, of entries for the budgets first, first + 1 and so on
+abbrev pub entry_from : {Entry : Type 0} → ℕ → List Entry → ℕ → Option Entry
+entry_from first entries budget =
+    if nat_le first budget then slice_get entries (budget - first) else None
+
+-- the entry of a row for a budget
 abbrev pub entry_for : PolicyRow → ℕ → Option PolicyEntry
-entry_for row budget =
-    if nat_le row.first budget then slice_get row.entries (budget - row.first) else None
+entry_for row budget = entry_from row.first row.entries budget
 
 -- the entry of a node for a budget; none where no row has that node and budget
 abbrev pub entry_of : Table → ℕ → ℕ → Option PolicyEntry

@@ -20,6 +20,9 @@ pub struct PolicyHead {
     pub scale: u32,
 }
 
+/// Whose bracket table it is: both versions have the same head.
+pub type BracketHead = PolicyHead;
+
 impl PolicyHead {
     #[tactic(auto, using(crate::proofs::Rules::head_fits))]
     pub(crate) fn is_in_range(&self) -> bool

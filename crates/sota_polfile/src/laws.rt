@@ -6,6 +6,8 @@ ghost use Rattle.sota_polfile.specs.Table.{Table, IsTable, entry_of};
 ghost use Rattle.sota_polfile.specs.declared.entry.PolicyEntry.{PolicyEntry};
 ghost use Rattle.sota_polfile.specs.declared.row.PolicyRow.{PolicyRow};
 ghost use Rattle.sota_polfile.specs.Spelling.{spelling, file_len};
+ghost use Rattle.sota_polfile.specs.declared.any.AnyTable.{AnyTable};
+ghost use Rattle.sota_polfile.specs.BracketFile.{IsAny, any_spelling, any_of};
 ghost use Rattle.sota_polfile.specs.Faults.{first_fault, policy_of, cut_of};
 
 use crate::{PolicyFault, PolicyTable};
@@ -39,6 +41,13 @@ pub fn one_to_one()
     ensures again { (table : Table) → IsTable table → policy_of (spelling table) ≡ Ok table }
     ensures whole { (bytes : List ℕ) (table : Table) → All (λ byte. byte < 256) bytes
         → policy_of bytes ≡ Ok table → IsTable table × (bytes ≡ spelling table) }
+{}
+
+/// The same of tables of either version.
+pub fn any_one_to_one()
+    ensures again { (table : AnyTable) → IsAny table → any_of (any_spelling table) ≡ Ok table }
+    ensures whole { (bytes : List ℕ) (table : AnyTable) → All (λ byte. byte < 256) bytes
+        → any_of bytes ≡ Ok table → IsAny table × (bytes ≡ any_spelling table) }
 {}
 
 /// The fault of the first `length` bytes of the table's policy file, where the file is longer. It

@@ -2,9 +2,10 @@
 ghost use Rattle.std.specs.Prelude.{◌≡◌, ◌+◌, ◌≤◌, length};
 ghost use Rattle.std.specs.Int.{w32, w64};
 ghost use Rattle.sota_polfile.specs.Places.{number_at, head_at, row_count, row_head_at, entry_at};
+ghost use Rattle.sota_polfile.specs.BracketFile.{part_at, bracket_entry_at};
 
 use crate::row::RowHead;
-use crate::{PolicyEntry, PolicyHead};
+use crate::{BracketEntry, PolicyEntry, PolicyHead};
 
 #[tactic(auto, unfolding(crate::specs::Places::number_at))]
 fn u32_at(bytes: &[u8], at: usize) -> u32
@@ -26,9 +27,9 @@ fn u64_at(bytes: &[u8], at: usize) -> u64
     ])
 }
 
-/// The head of a file.
+/// The head of a file. Both versions have its numbers at the same places.
 pub(crate) fn head_at(bytes: &[u8]) -> PolicyHead
-    requires { 32 ≤ length bytes.now }
+    requires { 28 ≤ length bytes.now }
     ensures { result ≡ head_at bytes.now }
 {
     PolicyHead {
@@ -68,5 +69,29 @@ pub(crate) fn entry_at(bytes: &[u8], at: usize) -> PolicyEntry
     PolicyEntry {
         arc: u32_at(bytes, at),
         value: u64_at(bytes, at + 4),
+    }
+}
+
+/// What stands at this place before the entries of a node.
+pub(crate) fn part_at(bytes: &[u8], node: u32, at: usize) -> RowHead
+    requires { at + 8 ≤ length bytes.now }
+    ensures { result ≡ part_at bytes.now node at }
+{
+    RowHead {
+        node,
+        first: u32_at(bytes, at),
+        count: u64::from(u32_at(bytes, at + 4)),
+    }
+}
+
+/// The entry of a bracket file at this place.
+pub(crate) fn bracket_entry_at(bytes: &[u8], at: usize) -> BracketEntry
+    requires { at + 20 ≤ length bytes.now }
+    ensures { result ≡ bracket_entry_at bytes.now at }
+{
+    BracketEntry {
+        arc: u32_at(bytes, at),
+        lower: u64_at(bytes, at + 4),
+        upper: u64_at(bytes, at + 12),
     }
 }

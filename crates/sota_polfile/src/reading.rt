@@ -118,8 +118,8 @@ fn table_of(alloc: Global, bytes: &[u8]) -> Result<PolicyTable, PolicyFault>
     Ok(PolicyTable { head, rows })
 }
 
-/// The most bytes of a policy file: 1 GiB.
-pub const POLICY_LIMIT: u32 = 1_073_741_824;
+/// The most bytes of a policy file of either version.
+pub const POLICY_LIMIT: u32 = 1_400_000_000;
 
 /// The table of a policy file, or the first fault of bytes that are none, from the front on. It
 /// takes no memory that the bytes do not back, whatever numbers they claim. Who made the file does

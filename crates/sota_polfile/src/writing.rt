@@ -9,7 +9,7 @@ use crate::{PolicyEntry, PolicyHead, PolicyRow, PolicyTable};
 use sota_units::NoMemory;
 use std::alloc::{AllocError, Global};
 
-fn put_numbers(out: &mut Vec<u8>, ns: &[u32]) -> Result<(), AllocError>
+pub(crate) fn put_numbers(out: &mut Vec<u8>, ns: &[u32]) -> Result<(), AllocError>
     ensures { OnOk result (out.new.items ≡ out.old.items ++ numbers ns.now) }
 {
     for n in ns {

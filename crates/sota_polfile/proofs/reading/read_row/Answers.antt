@@ -3,18 +3,19 @@ use Rattle.sota_polfile.specs.Places.{row_head_at, row_at}
 use Rattle.sota_polfile.specs.Words.{is_shortage}
 use Rattle.sota_polfile.specs.Faults.{numbers_fault}
 use Rattle.sota_polfile.proofs.Rules.{numbers_fit}
-use Rattle.sota_polfile.proofs.Rows.{in_row_head, in_entries, in_numbers, no_fault}
+use Rattle.sota_polfile.proofs.FileFaults.{sized_short, sized_bad}
+use Rattle.sota_polfile.proofs.Rows.{in_entries, no_fault}
 use Rattle.sota_polfile.proofs.Replies.{unless_from, refused, faultless}
 use Rattle.sota_polfile.proofs.reading.read_row.Goals as goal
 
 pub returns-then-left-lt-ROW_HEAD : goal.returns-then-left-lt-ROW_HEAD
 returns-then-left-lt-ROW_HEAD c =
-    refused _ (row_at c.args.bytes.now c.args.at) _ (in_row_head c.args.bytes.now c.args.head.now c.args.at c.args.before c.args.number (omega arith))
+    refused _ (row_at c.args.bytes.now c.args.at) _ (sized_short (length c.args.bytes.now) c.args.at 12 _ 12 _ (omega arith))
 
 pub returns-in-Some : goal.returns-in-Some
 returns-in-Some c =
     let found : numbers_fault c.args.head.now c.args.before c.args.number (row_head_at c.args.bytes.now c.args.at) ≡ Some c.in-Some.fault = rw c.row_head_at-row.ensures at (sym c.in-Some.ensures) in
-    unless_from (is_shortage c.in-Some.fault) (refused _ (row_at c.args.bytes.now c.args.at) _ (in_numbers c.args.bytes.now c.args.head.now c.args.at c.args.before c.args.number c.in-Some.fault found (omega arith)))
+    unless_from (is_shortage c.in-Some.fault) (refused _ (row_at c.args.bytes.now c.args.at) _ (sized_bad (length c.args.bytes.now) c.args.at 12 _ 12 _ c.in-Some.fault found (omega arith)))
 
 pub returns-then-whole-row : goal.returns-then-whole-row
 returns-then-whole-row c =

@@ -5,7 +5,8 @@ use Rattle.sota_polfile.specs.declared.row.PolicyRow.{PolicyRow}
 use Rattle.sota_polfile.specs.Places.{row_head_at, row_at, start, node_before}
 use Rattle.sota_polfile.specs.Words.{is_shortage}
 use Rattle.sota_polfile.specs.Faults.{row_fault}
-use Rattle.sota_polfile.proofs.Rows.{passes, start_after, node_before_after, file_rows_passed, file_rows_found, file_rows_done}
+use Rattle.sota_polfile.proofs.FileFaults.{among_passed, among_found, among_none}
+use Rattle.sota_polfile.proofs.Rows.{passes, start_after, node_before_after}
 use Rattle.sota_polfile.proofs.Replies.{fault_or_ok, fault_or_err, unless_more}
 use Rattle.sota_polfile.proofs.reading.read_rows.Goals as goal
 
@@ -23,7 +24,7 @@ returns-in_err-row-clause-fault c =
     let p = err_from_is_err_and c.from_residual.result c.from_residual.ensures.1 in
     let left : c.args.count - k ≡ suc (c.args.count - (k + 1)) = omega arith in
     let given = rw (c.requires.head, invariant.at, invariant.before) at c.in_err-row.ensures in
-    rw (p.1, p.2) (unless_more (is_shortage c.in_err-row.field-0.0) (λ refusal. sym invariant.so_far ∙ rw left (file_rows_found bytes k (c.args.count - (k + 1)) c.in_err-row.field-0.0 (fault_or_err (row_fault bytes k) (row_at bytes (start bytes k)) c.in_err-row.field-0.0 refusal))) given)
+    rw (p.1, p.2) (unless_more (is_shortage c.in_err-row.field-0.0) (λ refusal. sym invariant.so_far ∙ rw left (among_found (row_fault bytes) k (c.args.count - (k + 1)) c.in_err-row.field-0.0 (fault_or_err (row_fault bytes k) (row_at bytes (start bytes k)) c.in_err-row.field-0.0 refusal))) given)
 
 pub loop-k-preserved : goal.loop-k-preserved
 loop-k-preserved c =
@@ -45,11 +46,11 @@ loop-k-preserved c =
       within = omega (arith, pass.within, count, c.len.ensures.value, invariant.at);
       rows = rw (c.in_ok-push.ensures.items, invariant.rows, ← read.1) (sym more);
       before = sym (node_before_after bytes k ∙ ap (λ (n : ℕ). Some n) node);
-      so_far = sym (file_rows_passed bytes k (c.args.count - (k + 1)) read.0) ∙ rw left at invariant.so_far;
+      so_far = sym (among_passed (row_fault bytes) k (c.args.count - (k + 1)) read.0) ∙ rw left at invariant.so_far;
     }
 
 pub returns-clause-none : goal.returns-clause-none
 returns-clause-none c =
     let bytes = c.args.bytes.now in
     let nothing : c.args.count - c.loop-k.k ≡ 0 = omega arith in
-    sym c.loop-k.invariant.so_far ∙ rw nothing (file_rows_done bytes c.loop-k.k)
+    sym c.loop-k.invariant.so_far ∙ rw nothing (among_none (row_fault bytes) c.loop-k.k)
