@@ -6,7 +6,7 @@ use Rattle.std.proofs.lemmas.List.{length-map}
 use Rattle.sota_text.specs.Text.{is_blank, is_empty, fields_of}
 use Rattle.sota_text.specs.Words.{three, four}
 use Rattle.sota_units.specs.Memory.{◌>>=◌, or_fault}
-use Rattle.sota_script.specs.Lines.{all_there, pair_of, pairs_of, parse_number, parse_ask, parse_name, parse_edit, parse_close, parse_ask_line, parse_policy, parse_route, parse_need, parse_command, numbers_of, grain_of}
+use Rattle.sota_script.specs.Lines.{all_there, pair_of, pairs_of, parse_number, parse_ask, parse_edit, parse_close, parse_ask_line, parse_named, parse_policy, parse_bracket, parse_route, parse_need, parse_command, numbers_of, grain_of}
 use Rattle.sota_script.specs.Few.{HasFewPairs}
 use Rattle.sota_script.specs.declared.command.Ask3.{Ask3}
 use Rattle.sota_script.specs.declared.command.Command.{Command}
@@ -84,17 +84,17 @@ ask_few words command e =
       | Some word ↦ λ e. ask_by (parse_ask word.0 word.1 word.2) command e
     ] e
 
-policy_by : (ask : Result Ask3 LineFault) (name : Result (List ℕ) LineFault) (command : Command) → (ask >>= λ ask. name >>= λ name. Ok (commands.Policy ask name)) ≡ Ok command → HasFewPairs command
-policy_by (Err fault) name command e = absurd (cc)
-policy_by (Ok ask) (Err fault) command e = absurd (cc)
-policy_by (Ok ask) (Ok name) command e = let is : commands.Policy ask name ≡ command = cc in subst (λ (command : Command). HasFewPairs command) is tt
+-- an ask with a name makes such a command
+named_few : (make : Ask3 → List ℕ → Command) → ((ask : Ask3) (name : List ℕ) → HasFewPairs (make ask name)) → (named : Result (Ask3 × List ℕ) LineFault) (command : Command)
+    → (named >>= λ named. Ok (make named.0 named.1)) ≡ Ok command → HasFewPairs command
+named_few make few (Err fault) command e = absurd (cc)
+named_few make few (Ok named) command e = let is : make named.0 named.1 ≡ command = cc in subst (λ (command : Command). HasFewPairs command) is (few named.0 named.1)
 
 policy_few : (words : List (List ℕ)) (command : Command) → parse_policy words ≡ Ok command → HasFewPairs command
-policy_few words command e =
-    elim (four words) as (λ found. (or_fault Count found >>= λ word. parse_ask word.0 word.1 word.2 >>= λ ask. parse_name word.3 >>= λ name. Ok (commands.Policy ask name)) ≡ Ok command → HasFewPairs command) [
-      | None ↦ λ e. absurd (cc)
-      | Some word ↦ λ e. policy_by (parse_ask word.0 word.1 word.2) (parse_name word.3) command e
-    ] e
+policy_few words command e = named_few (λ ask name. commands.Policy ask name) (λ ask name. tt) (parse_named words) command e
+
+bracket_few : (words : List (List ℕ)) (command : Command) → parse_bracket words ≡ Ok command → HasFewPairs command
+bracket_few words command e = named_few (λ ask name. commands.Bracket ask name) (λ ask name. tt) (parse_named words) command e
 
 route_by : (dest budget : Result ℕ LineFault) (arcs : Option (List ℕ)) (command : Command) → (dest >>= λ dest. budget >>= λ budget. or_fault Number arcs >>= λ arcs. Ok (commands.Route dest budget arcs)) ≡ Ok command → HasFewPairs command
 route_by (Err fault) budget arcs command e = absurd (cc)
@@ -132,6 +132,7 @@ command_few first words command few =
     (by_word (bytes_eq first (codes "close")) (parse_close words) _ command (close_few words command)
     (by_word (bytes_eq first (codes "ask")) (parse_ask_line words) _ command (ask_few words command)
     (by_word (bytes_eq first (codes "policy")) (parse_policy words) _ command (policy_few words command)
+    (by_word (bytes_eq first (codes "bracket")) (parse_bracket words) _ command (bracket_few words command)
     (by_word (bytes_eq first (codes "route")) (parse_route words) _ command (route_few words command)
     (by_word (bytes_eq first (codes "need")) (parse_need words) (Err Word) command (need_few words command)
-    (λ e. absurd (cc)))))))
+    (λ e. absurd (cc))))))))

@@ -87,13 +87,25 @@ parse_ask_line words = do
   ask ← parse_ask word.0 word.1 word.2
   Ok (commands.Ask ask)
 
--- 'O D T NAME' after 'policy'
-abbrev pub parse_policy : List (List ℕ) → Result Command LineFault
-parse_policy words = do
+-- 'O D T NAME': an ask, and the name under which what is planned for it is to be stored
+abbrev pub parse_named : List (List ℕ) → Result (Ask3 × List ℕ) LineFault
+parse_named words = do
   word ← or_fault Count (four words)
   ask ← parse_ask word.0 word.1 word.2
   name ← parse_name word.3
-  Ok (commands.Policy ask name)
+  Ok (ask, name)
+
+-- this after 'policy'
+abbrev pub parse_policy : List (List ℕ) → Result Command LineFault
+parse_policy words = do
+  named ← parse_named words
+  Ok (commands.Policy named.0 named.1)
+
+-- and after 'bracket'
+abbrev pub parse_bracket : List (List ℕ) → Result Command LineFault
+parse_bracket words = do
+  named ← parse_named words
+  Ok (commands.Bracket named.0 named.1)
 
 -- 'ARC T:M ..' after 'edit', with one pair or more
 abbrev pub parse_edit : List (List ℕ) → Result Command LineFault
@@ -134,9 +146,10 @@ parse_command first words =
     else (if bytes_eq first (codes "close") then parse_close words
     else (if bytes_eq first (codes "ask") then parse_ask_line words
     else (if bytes_eq first (codes "policy") then parse_policy words
+    else (if bytes_eq first (codes "bracket") then parse_bracket words
     else (if bytes_eq first (codes "route") then parse_route words
     else (if bytes_eq first (codes "need") then parse_need words
-    else Err Word)))))
+    else Err Word))))))
 
 -- ---- lines
 

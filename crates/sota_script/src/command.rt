@@ -29,6 +29,11 @@ pub enum Command {
         ask: Ask3,
         name: FileName,
     },
+    /// The bracket of an ask is to be stored under a name: its policy, with bounds of each value.
+    Bracket {
+        ask: Ask3,
+        name: FileName,
+    },
     /// The chance of keeping to a route to a destination within a budget in ticks is to be
     /// bracketed.
     Route {

@@ -5,7 +5,8 @@ ghost use Rattle.sota_units.specs.GrainText.{grain_spelling};
 ghost use Rattle.sota_units.specs.Rounding.{ONE};
 ghost use Rattle.sota_script.specs.Lines.{parse_line, pair_of, IsPair, grain_of};
 ghost use Rattle.sota_script.specs.declared.command.Command.TheVariants.{Edit, Close, Ask};
-ghost use Rattle.sota_script.specs.declared.command.Command.TheVariants.{Policy, Route, Need};
+ghost use Rattle.sota_script.specs.declared.command.Command.TheVariants.{Policy, Bracket};
+ghost use Rattle.sota_script.specs.declared.command.Command.TheVariants.{Route, Need};
 ghost use Rattle.sota_script.specs.declared.fault.LineFault.TheVariants.{Word, Count, Number};
 
 /// A field is a pair exactly where it is the texts of two numbers with a colon between, however it
@@ -32,6 +33,8 @@ pub fn worked_lines()
         ≡ Ok (Some (Ask (record { origin = 1; dest = 3; budget = 2 }))) }
     ensures policy { parse_line (codes "policy 1 3 2 p")
         ≡ Ok (Some (Policy (record { origin = 1; dest = 3; budget = 2 }) (codes "p"))) }
+    ensures bracket { parse_line (codes "bracket 1 3 2 p")
+        ≡ Ok (Some (Bracket (record { origin = 1; dest = 3; budget = 2 }) (codes "p"))) }
     ensures close { parse_line (codes "close 3") ≡ Ok (Some (Close 3)) }
     ensures route { parse_line (codes "route 3 9 1 2") ≡ Ok (Some (Route 3 9 (1 ∷ 2 ∷ []))) }
     ensures need { parse_line (codes "need 1 3 0.750000000000000000 9")

@@ -11,5 +11,5 @@ mod tests;
 
 pub use command::{Ask3, Command};
 pub use fault::LineFault;
-pub use line::read_line;
+pub use line::{begins_comment, read_line};
 pub use name::FileName;

@@ -6,6 +6,7 @@ ghost use Rattle.sota_text.specs.Spans.{bytes_of, AreWithin, IsWithin};
 ghost use Rattle.sota_script.specs.Words.{is_shortage};
 ghost use Rattle.sota_script.specs.Lines.{parse_line, parse_command, begins_comment};
 ghost use Rattle.sota_script.specs.Lines.{parse_edit, parse_close, parse_ask_line, parse_policy};
+ghost use Rattle.sota_script.specs.Lines.{parse_bracket, parse_named};
 ghost use Rattle.sota_script.specs.Lines.{parse_route, parse_need, parse_ask, parse_number};
 ghost use Rattle.sota_script.specs.Lines.{parse_name, grain_of};
 ghost use Rattle.sota_script.specs.Lines.{pairs_of, pair_of, is_colon, numbers_of};
@@ -21,8 +22,8 @@ use std::alloc::Global;
 /// or a comment, whose first field begins with `#`.
 ///
 /// Commands are `edit ARC T:M ..`, with one pair or more, `close ARC`, `ask O D T`,
-/// `policy O D T NAME`, `route D T ARC ..`, with one arc or more, and `need O D CONF TMAX`. Fields
-/// are parted by spaces and tabs.
+/// `policy O D T NAME`, `bracket O D T NAME`, `route D T ARC ..`, with one arc or more, and
+/// `need O D CONF TMAX`. Fields are parted by spaces and tabs.
 pub fn read_line(alloc: Global, line: &[u8]) -> Result<Option<Command>, LineFault>
     requires { length line.now < 2 ^ 32 }
     ensures meaning { Answers is_shortage result (parse_line line.now) }
@@ -39,8 +40,8 @@ pub fn read_line(alloc: Global, line: &[u8]) -> Result<Option<Command>, LineFaul
     Ok(Some(read_command(alloc, line, first, fields)?))
 }
 
-/// A comment is a line whose first field begins with `#`.
-fn begins_comment(first: &[u8]) -> bool
+/// Whether a line with this first field is a comment: the field begins with `#`.
+pub fn begins_comment(first: &[u8]) -> bool
     ensures { result ≡ begins_comment first.now }
 {
     !first.is_empty() && first[0] == b'#'
@@ -65,6 +66,8 @@ fn read_command(
         read_ask_line(line, fields)
     } else if first == b"policy".as_slice() {
         read_policy(alloc, line, fields)
+    } else if first == b"bracket".as_slice() {
+        read_bracket(alloc, line, fields)
     } else if first == b"route".as_slice() {
         read_route(alloc, line, fields)
     } else if first == b"need".as_slice() {
@@ -216,11 +219,27 @@ fn read_policy(alloc: Global, line: &[u8], fields: Fields<'_>) -> Result<Command
     requires { AreWithin line.now fields }
     ensures { Answers is_shortage result (parse_policy (map (bytes_of line.now) fields.entry)) }
 {
+    let (ask, name) = read_named(alloc, line, fields)?;
+    Ok(Command::Policy { ask, name })
+}
+
+/// The command of the fields after a `bracket`.
+fn read_bracket(alloc: Global, line: &[u8], fields: Fields<'_>) -> Result<Command, LineFault>
+    requires { AreWithin line.now fields }
+    ensures { Answers is_shortage result (parse_bracket (map (bytes_of line.now) fields.entry)) }
+{
+    let (ask, name) = read_named(alloc, line, fields)?;
+    Ok(Command::Bracket { ask, name })
+}
+
+/// An ask, and the name under which what is planned for it is to be stored.
+fn read_named(alloc: Global, line: &[u8], fields: Fields<'_>) -> Result<(Ask3, FileName), LineFault>
+    requires { AreWithin line.now fields }
+    ensures { Answers is_shortage result (parse_named (map (bytes_of line.now) fields.entry)) }
+{
     let (origin, dest, budget, name) = four_fields(line, fields).ok_or(LineFault::Count)?;
-    Ok(Command::Policy {
-        ask: read_ask(origin, dest, budget)?,
-        name: read_name(alloc, name)?,
-    })
+    let ask = read_ask(origin, dest, budget)?;
+    Ok((ask, read_name(alloc, name)?))
 }
 
 /// The ask of three fields.

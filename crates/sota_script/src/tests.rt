@@ -19,6 +19,10 @@ fn refused_lines(rt: HostRuntime) -> Result<(), Fail> {
         ("ask 1 x 3 4", LineFault::Count),
         ("policy 1 2 3", LineFault::Count),
         ("policy 1 x 3 p q", LineFault::Count),
+        ("brackets 1 2 3 p", LineFault::Word),
+        ("bracket 1 2 3", LineFault::Count),
+        ("bracket 1 x 3 p q", LineFault::Count),
+        ("bracket 1 2 x p", LineFault::Number),
         ("route 3 9", LineFault::Count),
         ("routes 3 9 1", LineFault::Word),
         ("route 3 9 1 x", LineFault::Number),
@@ -69,7 +73,7 @@ fn fault_of(alloc: Global, line: &[u8]) -> Option<LineFault> {
 fn is_ask(command: &Command, want: &Ask3) -> bool {
     match command {
         Command::Ask(ask) => ask == want,
-        Command::Edit { .. } | Command::Close { .. } => false,
+        Command::Edit { .. } | Command::Close { .. } | Command::Bracket { .. } => false,
         Command::Policy { .. } | Command::Route { .. } | Command::Need { .. } => false,
     }
 }
@@ -78,7 +82,16 @@ fn is_ask(command: &Command, want: &Ask3) -> bool {
 fn is_policy(command: &Command, want: &Ask3, want_name: &str) -> bool {
     match command {
         Command::Policy { ask, name } => ask == want && name.as_str() == want_name,
-        Command::Edit { .. } | Command::Close { .. } => false,
+        Command::Edit { .. } | Command::Close { .. } | Command::Bracket { .. } => false,
+        Command::Ask(_) | Command::Route { .. } | Command::Need { .. } => false,
+    }
+}
+
+/// Whether a command stores the bracket of this ask under this name.
+fn is_bracket(command: &Command, want: &Ask3, want_name: &str) -> bool {
+    match command {
+        Command::Bracket { ask, name } => ask == want && name.as_str() == want_name,
+        Command::Edit { .. } | Command::Close { .. } | Command::Policy { .. } => false,
         Command::Ask(_) | Command::Route { .. } | Command::Need { .. } => false,
     }
 }
@@ -90,7 +103,7 @@ fn is_edit(command: Command, want: ArcId, want_pairs: &[(Tick, Mass)]) -> bool {
             let pairs = Items::new(pairs.into_vec());
             arc == want && pairs.as_slice() == want_pairs
         }
-        Command::Close { .. } | Command::Ask(_) => false,
+        Command::Close { .. } | Command::Ask(_) | Command::Bracket { .. } => false,
         Command::Policy { .. } | Command::Route { .. } | Command::Need { .. } => false,
     }
 }
@@ -101,7 +114,7 @@ fn is_route(command: &Command, want_dest: u32, want_budget: u32, route: &[ArcId]
         Command::Route { dest, budget, arcs } => {
             *dest == want_dest && *budget == want_budget && arcs.as_slice() == route
         }
-        Command::Edit { .. } | Command::Close { .. } => false,
+        Command::Edit { .. } | Command::Close { .. } | Command::Bracket { .. } => false,
         Command::Ask(_) | Command::Policy { .. } | Command::Need { .. } => false,
     }
 }
@@ -110,7 +123,7 @@ fn is_route(command: &Command, want_dest: u32, want_budget: u32, route: &[ArcId]
 fn is_need(command: &Command, want: &Ask3, want_confidence: Grain) -> bool {
     match command {
         Command::Need { ask, confidence } => ask == want && *confidence == want_confidence,
-        Command::Edit { .. } | Command::Close { .. } => false,
+        Command::Edit { .. } | Command::Close { .. } | Command::Bracket { .. } => false,
         Command::Ask(_) | Command::Policy { .. } | Command::Route { .. } => false,
     }
 }
@@ -122,6 +135,18 @@ fn commands(rt: HostRuntime) -> Result<(), Fail> {
         assert!(rt; bytes.len() < 100);
         assert!(rt; read_line(rt.alloc(), bytes)?.is_none(), "{line}");
     }
+    let pairs = [(Tick(5), Mass(1)), (Tick(0), Mass(4)), (Tick(5), Mass(0))];
+    let command = read_line(rt.alloc(), b"edit 3 5:1\t0:04 5:0")?.ok_or("an edit")?;
+    assert!(rt; is_edit(command, ArcId(3), &pairs));
+    let command = read_line(rt.alloc(), b"close\t07 ")?.ok_or("a close")?;
+    assert!(rt; matches!(&command, Command::Close { arc: ArcId(7) }));
+    let command = read_line(rt.alloc(), b"route 3 65536\t1 02 ")?.ok_or("a route")?;
+    assert!(rt; is_route(&command, 3, 65536, &[ArcId(1), ArcId(2)]));
+    Ok(())
+}
+
+#[test]
+fn plans(rt: HostRuntime) -> Result<(), Fail> {
     let ask = Ask3 {
         origin: 1,
         dest: 2,
@@ -133,13 +158,8 @@ fn commands(rt: HostRuntime) -> Result<(), Fail> {
     assert!(rt; line.len() < 100);
     let command = read_line(rt.alloc(), line)?.ok_or("a policy")?;
     assert!(rt; is_policy(&command, &ask, "d\u{e9}p\u{f4}t/1.pol"));
-    let pairs = [(Tick(5), Mass(1)), (Tick(0), Mass(4)), (Tick(5), Mass(0))];
-    let command = read_line(rt.alloc(), b"edit 3 5:1\t0:04 5:0")?.ok_or("an edit")?;
-    assert!(rt; is_edit(command, ArcId(3), &pairs));
-    let command = read_line(rt.alloc(), b"close\t07 ")?.ok_or("a close")?;
-    assert!(rt; matches!(&command, Command::Close { arc: ArcId(7) }));
-    let command = read_line(rt.alloc(), b"route 3 65536\t1 02 ")?.ok_or("a route")?;
-    assert!(rt; is_route(&command, 3, 65536, &[ArcId(1), ArcId(2)]));
+    let command = read_line(rt.alloc(), b"bracket 1 2\t65536 b")?.ok_or("a bracket")?;
+    assert!(rt; is_bracket(&command, &ask, "b"));
     let command = read_line(rt.alloc(), b"need 1\t2 1.000000000000000000 65536")?.ok_or("a need")?;
     assert!(rt; is_need(&command, &ask, Grain::ONE));
     Ok(())

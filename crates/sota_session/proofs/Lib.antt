@@ -5,3 +5,6 @@ mod Growing
 mod Started
 mod Cutting
 mod Results
+mod Accepted
+mod Bracketing
+mod BracketPlanned

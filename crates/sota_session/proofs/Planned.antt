@@ -25,7 +25,7 @@ use Rattle.sota_session.specs.declared.ask.Ask.{Ask}
 
 -- ---- lists over a range
 
-mapped-same : {X : Type 0} (f g : ℕ → X) (a n : ℕ) → ((t : ℕ) → a ≤ t → t < a + n → f t ≡ g t) → map f (range_with_len a n) ≡ map g (range_with_len a n)
+pub mapped-same : {X : Type 0} (f g : ℕ → X) (a n : ℕ) → ((t : ℕ) → a ≤ t → t < a + n → f t ≡ g t) → map f (range_with_len a n) ≡ map g (range_with_len a n)
 mapped-same f g a zero same = refl
 mapped-same f g a (suc n) same =
     let rest = mapped-same f g (a + 1) n (λ t low high. same t (omega arith) (omega arith)) in
@@ -103,7 +103,7 @@ module _ (net : Net) (ask : Ask) (region : AskRegion) (tables : TablesView) (is 
   abbrev needed : ℕ → ℕ
   needed i = need_at region.need i
 
-  region-is : IsRegion region net ask.origin ask.dest ask.budget
+  pub region-is : IsRegion region net ask.origin ask.dest ask.budget
   region-is = rw (← is.asked.0, ← is.asked.1, ← is.asked.2) is.made.region_is
 
   need-is : (i : ℕ) → IsNode net i → needed i ≡ need net ask.origin ask.dest ask.budget i
@@ -111,7 +111,7 @@ module _ (net : Net) (ask : Ask) (region : AskRegion) (tables : TablesView) (is 
       ap (λ (needs : List ℕ). need_at needs i) region-is.need
       ∙ is.entry (need net ask.origin ask.dest ask.budget) net.nodes i 0 node.0 node.1
 
-  need-within : (i : ℕ) → IsNode net i → needed i ≤ ask.budget + 1
+  pub need-within : (i : ℕ) → IsNode net i → needed i ≤ ask.budget + 1
   need-within i node =
       let few : i - 1 < length region.need = omega (arith, node.0, node.1, is.made.agrees.need, is.made.nodes) in
       region-is.within (i - 1) 0 few

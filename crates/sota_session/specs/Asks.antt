@@ -1,10 +1,13 @@
 -- Asks: why one is refused, and what answers the others.
-use Rattle.std.specs.Prelude.{ℕ, ◌≤◌, ◌&&◌, nat_le, Bool, Option, Some, None, if◌then◌else◌}
+use Rattle.std.specs.Prelude.{◌≤◌, Option}
 use Rattle.std.specs.Option.{option_map, option_or}
 use Rattle.sota_units.specs.Limits.{BUDGET_LIMIT}
 use Rattle.sota_network.specs.Network.{Net, IsNode}
 use Rattle.sota_network.specs.Grid.{lo, hi, choice}
+use Rattle.sota_bounds.specs.Range as bounds
 use Rattle.sota_bounds.specs.Faults.{region_fault}
+use Rattle.sota_bounds.specs.declared.range.RangeFault.{RangeFault}
+use Rattle.sota_bounds.specs.declared.range.RangeFault.TheVariants as ranges
 use Rattle.sota_bounds.specs.declared.fault.RegionFault.{RegionFault}
 use Rattle.sota_bounds.specs.declared.fault.RegionFault.TheVariants as regions
 use Rattle.sota_session.specs.declared.ask.Ask.{Ask}
@@ -13,18 +16,15 @@ use Rattle.sota_session.specs.declared.ask.AskFault.{AskFault}
 use Rattle.sota_session.specs.declared.ask.AskFault.TheVariants.{NoOrigin, NoDest, Budget}
 use Rattle.sota_session.specs.declared.ask.AskFault.TheVariants.{TableCells, BroadCells, NoMemory}
 
--- whether a node has this number
-abbrev pub is_node : Net → ℕ → Bool
-is_node net node = nat_le 1 node && nat_le node net.nodes
-
 -- the first number of an ask that is out of range, none where all are in it
+abbrev pub range_cause : RangeFault → AskFault
+range_cause ranges.NoOrigin = NoOrigin
+range_cause ranges.NoDest = NoDest
+range_cause ranges.Budget = Budget
+
 abbrev pub range_fault : Net → Ask → Option AskFault
 range_fault net ask =
-    if is_node net ask.origin then
-    (if is_node net ask.dest then
-    (if nat_le ask.budget BUDGET_LIMIT then None else Some Budget)
-    else Some NoDest)
-    else Some NoOrigin
+    option_map range_cause (bounds.range_fault net ask.origin ask.dest ask.budget)
 
 -- a region that is too large is one that cannot be planned for
 abbrev pub size_cause : RegionFault → AskFault

@@ -3,6 +3,7 @@ pub mod Asks
 pub mod Answers
 pub mod Words
 pub mod Plans
+pub mod Brackets
 pub mod Rows
 pub mod Cuts
 pub mod Worked

@@ -8,8 +8,11 @@ use Rattle.sota_bounds.specs.Search.{time_at}
 use Rattle.sota_bounds.specs.Cells.{need_at}
 use Rattle.sota_bounds.specs.Regions.{IsRegion}
 use Rattle.sota_bounds.specs.declared.ask.AskRegion.{AskRegion}
+use Rattle.sota_kept.specs.Ticks.{END_LIMIT, up_to}
 use Rattle.sota_tables.specs.Views.{TablesView, HasNode, IsKnownAt, lower_at, upper_at}
 use Rattle.sota_tables.specs.Views.{choice_in}
+use Rattle.sota_polfile.specs.declared.bracket_entry.BracketEntry.{BracketEntry}
+use Rattle.sota_polfile.specs.declared.bracket_row.BracketRow.{BracketRow}
 use Rattle.sota_polfile.specs.declared.entry.PolicyEntry.{PolicyEntry}
 use Rattle.sota_polfile.specs.declared.row.PolicyRow.{PolicyRow}
 
@@ -49,3 +52,25 @@ row_from region tables i (Some first) =
 
 abbrev pub row_in : AskRegion → TablesView → ℕ → Option PolicyRow
 row_in region tables i = row_from region tables i (time_at region.least i)
+
+-- ---- the rows of a bracket
+
+-- what is planned for node i at budget t, with both bounds
+abbrev pub bracket_in : TablesView → ℕ → ℕ → BracketEntry
+bracket_in tables i t = record {
+  arc = unwrap_or (choice_in tables i t) 0;
+  lower = lower_at tables i t;
+  upper = upper_at tables i t;
+}
+
+-- its row from a first budget on
+abbrev pub bracket_row_from : AskRegion → TablesView → ℕ → ℕ → BracketRow
+bracket_row_from region tables i first = record {
+  first = first;
+  entries = map (bracket_in tables i) (range_with_len first (need_at region.need i - first));
+}
+
+-- which is its least time to the destination
+abbrev pub bracket_row_in : AskRegion → TablesView → ℕ → BracketRow
+bracket_row_in region tables i =
+    bracket_row_from region tables i (up_to END_LIMIT (time_at region.least i))

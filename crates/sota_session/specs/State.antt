@@ -1,5 +1,5 @@
 -- What a session is, as contracts see it, and what asks and edits make of it.
-use Rattle.std.specs.Prelude.{ℕ, ◌≡◌, ◌*◌, ◌⊎◌, List, Option, None, Some}
+use Rattle.std.specs.Prelude.{ℕ, ◌≡◌, ◌+◌, ◌*◌, ◌⊎◌, List, Option, None, Some}
 use Rattle.sota_hist.specs.Time.{first_difference}
 use Rattle.sota_network.specs.Network.{Net, arc_at}
 use Rattle.sota_network.specs.declared.network.Arc.{Arc}
@@ -31,6 +31,14 @@ abbrev pub IsLeft : Net → Ask → TableLists → TableLists → Type 0
 IsLeft net ask old new =
     (new ≡ old)
     ⊎ (state_of new ≡ prepared_state net ask.origin ask.dest ask.budget (state_of old))
+
+-- a call that reads more of the tables once the ask is planned may find no memory before or after
+-- that
+abbrev pub MayLeave : Net → Ask → TableLists → TableLists → ℕ → ℕ → Type 0
+MayLeave net ask old new before after =
+    (IsLeft net ask old new × (after ≡ before))
+    ⊎ ((state_of new ≡ state_after net ask (state_of old))
+    × (after ≡ before + pushes_for net ask (state_of old)))
 
 -- ---- an edit
 -- an arc gets another time. From its first affected budget on no entry of a node is kept, and none

@@ -1,12 +1,9 @@
 // Asks, their answers, and why they are refused.
 ghost use Rattle.std.specs.Prelude.{◌≡◌};
-ghost use Rattle.sota_network.specs.Network.{IsNet};
-ghost use Rattle.sota_session.specs.Asks.{is_node, range_fault};
 ghost use Rattle.sota_session.specs.Words.{ask_word, ask_count};
 
-use sota_bounds::RegionFault;
-use sota_network::Network;
-use sota_units::{ArcId, BUDGET_LIMIT, Grain, NoMemory, NodeId};
+use sota_bounds::{RangeFault, RegionFault};
+use sota_units::{ArcId, Grain, NoMemory, NodeId};
 
 /// How likely can one who stands at the origin be at the destination within the budget, in ticks?
 #[derive(Clone, Copy, Debug, PartialEq, Eq)]
@@ -77,6 +74,20 @@ impl From<NoMemory> for AskFault {
     }
 }
 
+impl From<RangeFault> for AskFault {
+    ghost use Rattle.sota_session.specs.Asks.{range_cause};
+
+    ghost from_gives = { λ range fault. fault ≡ range_cause range };
+
+    fn from(fault: RangeFault) -> Self {
+        match fault {
+            RangeFault::NoOrigin => AskFault::NoOrigin,
+            RangeFault::NoDest => AskFault::NoDest,
+            RangeFault::Budget => AskFault::Budget,
+        }
+    }
+}
+
 impl From<RegionFault> for AskFault {
     ghost use Rattle.sota_session.specs.Asks.{size_cause};
 
@@ -88,29 +99,5 @@ impl From<RegionFault> for AskFault {
             RegionFault::BroadCells(count) => AskFault::BroadCells(count),
             RegionFault::NoMemory => AskFault::NoMemory,
         }
-    }
-}
-
-/// Whether a node of the network has this number.
-fn has_node(network: &Network, node: NodeId) -> bool
-    ensures value { result ≡ is_node network.now node }
-    ensures valid { IsNet network.now }
-{
-    (1..=network.nodes()).contains(&node.get())
-}
-
-/// The first number of the ask that is out of range.
-pub(crate) fn find_range_fault(network: &Network, ask: &Ask) -> Option<AskFault>
-    ensures value { result ≡ range_fault network.now ask.now }
-    ensures valid { IsNet network.now }
-{
-    if !has_node(network, ask.origin) {
-        Some(AskFault::NoOrigin)
-    } else if !has_node(network, ask.dest) {
-        Some(AskFault::NoDest)
-    } else if ask.budget > BUDGET_LIMIT {
-        Some(AskFault::Budget)
-    } else {
-        None
     }
 }

@@ -26,9 +26,9 @@ impl EditFault {
 }
 
 impl From<NoMemory> for EditFault {
-    ghost use Rattle.sota_session.specs.declared.edit.EditFault.TheVariants.{NoMemory as OutOfMemory};
+    ghost use Rattle.sota_session.specs.declared.edit.EditFault.TheVariants as edits;
 
-    ghost from_gives = { λ _ fault. fault ≡ OutOfMemory };
+    ghost from_gives = { λ _ fault. fault ≡ edits.NoMemory };
 
     fn from(_: NoMemory) -> Self {
         EditFault::NoMemory

@@ -2,6 +2,9 @@
 #![tactic(auto)]
 
 mod ask;
+mod bracket;
+#[cfg(test)]
+mod bracket_tests;
 mod cut;
 mod edit;
 pub mod laws;

@@ -15,8 +15,8 @@ ghost use Rattle.sota_session.specs.Rows.{IsPlanned};
 ghost use Rattle.sota_session.specs.State.{IsLeft, pushes_for, state_after};
 ghost use Rattle.sota_session.specs.declared.ask.AskFault.TheVariants as asks;
 
-use crate::ask::{Ask, AskFault, find_range_fault};
-use sota_bounds::{AskRegion, region};
+use crate::ask::{Ask, AskFault};
+use sota_bounds::{AskRegion, check_range, region};
 use sota_kept::kept::{needs_are_met, settled_entries};
 use sota_network::Network;
 use sota_network::laws::{grid_recurs, lists_by_number};
@@ -63,9 +63,7 @@ pub(crate) fn plan<M: Ledger, P: Ledger>(
         (IsLeft network.now ask.now (lists_of tables.old) (lists_of tables.new)) }
     ensures valid { IsNet network.now }
 {
-    if let Some(fault) = find_range_fault(network, ask) {
-        return Err(fault);
-    }
+    check_range(network, ask.origin, ask.dest, ask.budget)?;
     let region = region(alloc, network, ask.origin, ask.dest, ask.budget)?;
     grow(alloc, network, tables, &region, products, pushes)?;
     Ok(region)

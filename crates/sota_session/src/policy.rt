@@ -1,10 +1,14 @@
 // The policy of an ask, out of the tables.
 ghost use Rattle.std.specs.Prelude.{◌≡◌, ◌-◌, ◌≤◌, ◌<◌, ℕ, All, length, map, IfOk, IfSome};
+ghost use Rattle.std.specs.Prelude.{unwrap_or};
 ghost use Rattle.std.specs.List.{filter_map, range_with_len};
+ghost use Rattle.sota_network.specs.Network.{IsNet};
 ghost use Rattle.sota_network.specs.Grid.{lo};
-ghost use Rattle.sota_tables.specs.Views.{HasNode, IsKnownAt};
+ghost use Rattle.sota_tables.specs.Views.{HasNode, IsKnownAt, choice_in};
 ghost use Rattle.sota_polfile.specs.Entry.{IsEntry};
+ghost use Rattle.sota_polfile.specs.Table.{IsHead};
 ghost use Rattle.sota_check.specs.Certified.{IsCertified, value};
+ghost use Rattle.sota_check.specs.Planned.{ask_head};
 ghost use Rattle.sota_session.specs.Asks.{IsInRange};
 ghost use Rattle.sota_session.specs.Plans.{plan_table};
 ghost use Rattle.sota_session.specs.Rows.{IsPlanned, Agrees, entry_in, row_in};
@@ -43,14 +47,25 @@ pub(crate) fn policy_of(
     rows_make_plans();
     plans_hold();
     let rows = rows_of(alloc, network, region, tables)?;
-    let head = PolicyHead {
+    let head = head_of(network, ask);
+    Ok(PolicyTable::from_parts(head, rows).unwrap())
+}
+
+/// The head of what is planned for an ask.
+pub(crate) fn head_of(network: &Network, ask: &Ask) -> PolicyHead
+    requires { IsInRange network.now ask.now }
+    ensures value { result
+        ≡ ask_head network.now ask.now.origin ask.now.dest ask.now.budget }
+    ensures valid { IsHead result }
+    ensures net { IsNet network.now }
+{
+    PolicyHead {
         nodes: network.nodes(),
         dest: ask.dest.get(),
         origin: ask.origin.get(),
         budget: ask.budget,
         scale: network.scale().get(),
-    };
-    Ok(PolicyTable::from_parts(head, rows).unwrap())
+    }
 }
 
 /// The rows of all nodes that have one, in rising nodes.
@@ -134,12 +149,19 @@ fn entry_of(tables: &Tables, node: NodeId, budget: u32) -> PolicyEntry
     requires { IsKnownAt tables.now node budget }
     ensures { result ≡ entry_in tables.now node budget }
 {
-    let arc = match tables.choice(node, budget) {
+    PolicyEntry {
+        arc: arc_of(tables, node, budget),
+        value: tables.lower(node, budget).get(),
+    }
+}
+
+/// The arc to take from a node at a budget, 0 for none.
+pub(crate) fn arc_of(tables: &Tables, node: NodeId, budget: u32) -> u32
+    requires { IsKnownAt tables.now node budget }
+    ensures { result ≡ unwrap_or (choice_in tables.now node budget) 0 }
+{
+    match tables.choice(node, budget) {
         Some(arc) => arc.get(),
         None => 0,
-    };
-    PolicyEntry {
-        arc,
-        value: tables.lower(node, budget).get(),
     }
 }

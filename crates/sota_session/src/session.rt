@@ -1,24 +1,28 @@
 // A network that is asked and edited.
-ghost use Rattle.std.specs.Prelude.{◌≡◌, ◌+◌, ◌≤◌, ◌⊎◌, ◌↔◌, None, Err, IfOk, OnErr, OnOk};
+ghost use Rattle.std.specs.Prelude.{◌≡◌, ◌+◌, ◌≤◌, ◌↔◌, None, Err, IfOk, OnErr, OnOk};
 ghost use Rattle.std.specs.Option.{option_map};
 ghost use Rattle.sota_units.specs.Memory.{Unless};
 ghost use Rattle.sota_hist.specs.Time.{total};
 ghost use Rattle.sota_network.specs.Network.{IsNet, IsNode, arc_at, replaced};
-ghost use Rattle.sota_network.specs.Grid.{lo};
+ghost use Rattle.sota_network.specs.Grid.{lo, hi};
 ghost use Rattle.sota_kept.specs.States.{front_of, base_of, first_state};
 ghost use Rattle.sota_kept.specs.TableLists.{IsKept, IsSettled};
 ghost use Rattle.sota_check.specs.Certified.{IsCertified, value};
+ghost use Rattle.sota_check.specs.Bracketed.{IsBracketed, lower, upper};
 ghost use Rattle.sota_session.specs.Asks.{range_fault, size_fault, answer_of, IsInRange};
 ghost use Rattle.sota_session.specs.Plans.{plan_table};
 ghost use Rattle.sota_session.specs.Answers.{is_of_range, is_of_size, is_shortage};
 ghost use Rattle.sota_session.specs.Answers.{is_refused, refusal_of};
+ghost use Rattle.sota_session.specs.Brackets.{plan_bracket};
 ghost use Rattle.sota_session.specs.State.{kept_state, state_after, pushes_for, IsLeft};
+ghost use Rattle.sota_session.specs.State.{MayLeave};
 ghost use Rattle.sota_session.specs.State.{state_edited};
 ghost use Rattle.sota_session.specs.Cuts.{IsCutFor};
 ghost use Rattle.sota_session.specs.declared.ask.AskFault.TheVariants as asks;
 ghost use Rattle.sota_session.specs.declared.edit.EditFault.TheVariants as edits;
 
 use crate::ask::{Answer, Ask, AskFault};
+use crate::bracket::bracket_of;
 use crate::cut::cut_all;
 use crate::edit::EditFault;
 use crate::plan::plan;
@@ -29,7 +33,7 @@ use sota_kept::kept::tables_stay_right;
 use sota_kept::laws::edits_affect;
 use sota_network::Network;
 use sota_network::laws::lists_by_number;
-use sota_polfile::PolicyTable;
+use sota_polfile::{BracketTable, PolicyTable};
 use sota_tables::Tables;
 use sota_tables::laws::{tables_stay_kept, views_are_lists};
 use sota_units::{ArcId, NoMemory, NodeId, Steps};
@@ -188,12 +192,8 @@ impl Session {
             ≡ pushes.old + pushes_for self.old.network ask (kept_state self.old)) }
         ensures unchanged { OnErr result (Unless (is_refused is_shortage result)
             ((self.new ≡ self.old) × (pushes.new ≡ pushes.old))) }
-        ensures left { OnErr result
-            ((IsLeft self.old.network ask self.old.tables self.new.tables
-            × (pushes.new ≡ pushes.old))
-            ⊎ ((kept_state self.new ≡ state_after self.old.network ask (kept_state self.old))
-            × (pushes.new
-            ≡ pushes.old + pushes_for self.old.network ask (kept_state self.old)))) }
+        ensures left { OnErr result (MayLeave self.old.network ask self.old.tables self.new.tables
+            pushes.old pushes.new) }
         ensures right { IsKept self.new.tables self.new.network }
         ensures valid { IsNet self.new.network }
     {
@@ -206,6 +206,55 @@ impl Session {
             pushes,
         )?;
         let table = policy_of(self.alloc, &self.network, &ask, &region, &self.tables)?;
+        Ok(table)
+    }
+
+    /// The bracket of an ask for the network as it is now, which stays as it is: its policy, with
+    /// the grid's two values for each entry, and the first budget of each node. It holds on the
+    /// network, and the bounds that it names are those of the answer.
+    ///
+    /// It is refused as the ask is, and leaves what the ask leaves. Where it finds no memory after
+    /// the ask was planned, the state and the pushes are those after the ask.
+    pub fn bracket<M: Ledger, P: Ledger>(
+        &mut self,
+        ask: Ask,
+        products: &mut Steps<M>,
+        pushes: &mut Steps<P>,
+    ) -> Result<BracketTable, AskFault>
+        ensures range { refusal_of is_of_range result ≡ range_fault self.old.network ask }
+        ensures size { range_fault self.old.network ask ≡ None
+            → Unless (is_refused is_shortage result)
+            (refusal_of is_of_size result ≡ size_fault self.old.network ask) }
+        ensures memory { result ≡ Err asks.NoMemory → IsInRange self.old.network ask }
+        ensures file { IfOk result (λ table. table ≡ plan_bracket self.old.network ask) }
+        ensures bracketed { IfOk result (λ table. IsBracketed self.old.network table) }
+        ensures bounds { IfOk result (λ table.
+            (lower table ask.origin ask.budget
+            ≡ lo self.old.network ask.dest ask.origin ask.budget)
+            × (upper table ask.origin ask.budget
+            ≡ hi self.old.network ask.dest ask.origin ask.budget)) }
+        ensures kept { self.new.network ≡ self.old.network }
+        ensures state { OnOk result (kept_state self.new
+            ≡ state_after self.old.network ask (kept_state self.old)) }
+        ensures settled { OnOk result (IsSettled self.new.tables self.new.network) }
+        ensures count { OnOk result (pushes.new
+            ≡ pushes.old + pushes_for self.old.network ask (kept_state self.old)) }
+        ensures unchanged { OnErr result (Unless (is_refused is_shortage result)
+            ((self.new ≡ self.old) × (pushes.new ≡ pushes.old))) }
+        ensures left { OnErr result (MayLeave self.old.network ask self.old.tables self.new.tables
+            pushes.old pushes.new) }
+        ensures right { IsKept self.new.tables self.new.network }
+        ensures valid { IsNet self.new.network }
+    {
+        let region = plan(
+            self.alloc,
+            &self.network,
+            &mut self.tables,
+            &ask,
+            products,
+            pushes,
+        )?;
+        let table = bracket_of(self.alloc, &self.network, &ask, &region, &self.tables)?;
         Ok(table)
     }
 

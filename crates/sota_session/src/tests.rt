@@ -13,7 +13,7 @@ use std::sync::ledger::{Blank, Ledger};
 use std::test::Fail;
 
 /// A road from node 1 to node 2 that takes so many ticks.
-fn one_road(alloc: Global, tick: u32) -> Result<Network, NoMemory>
+pub(crate) fn one_road(alloc: Global, tick: u32) -> Result<Network, NoMemory>
     requires { 1 ≤ tick }
 {
     let mut arcs = Vec::new(alloc);
@@ -23,7 +23,7 @@ fn one_road(alloc: Global, tick: u32) -> Result<Network, NoMemory>
 }
 
 /// Node 1 leads to 3 by way of 2 or directly. The road from 1 to 2 takes one tick.
-fn triangle(alloc: Global) -> Result<Network, Fail> {
+pub(crate) fn triangle(alloc: Global) -> Result<Network, Fail> {
     let scale = Scale::new(4).ok_or("a scale")?;
     let late = [(Tick(1), Mass(2)), (Tick(3), Mass(2))];
     let direct = [(Tick(3), Mass(3)), (Tick(5), Mass(1))];
@@ -242,7 +242,7 @@ const THERE: [u32; 8] = [0x534f_5441, 0x504f_4c31, 2, 2, 2, 5, 1, 0];
 const LATE: [u32; 8] = [0x534f_5441, 0x504f_4c31, 2, 2, 1, 4, 1, 0];
 
 /// The bytes of numbers of four bytes.
-fn bytes_of(alloc: Global, numbers: &[u32]) -> Result<Vec<u8>, NoMemory> {
+pub(crate) fn bytes_of(alloc: Global, numbers: &[u32]) -> Result<Vec<u8>, NoMemory> {
     let mut bytes = Vec::new(alloc);
     for number in numbers {
         bytes.extend_from_slice(&number.to_be_bytes())?;
@@ -278,8 +278,8 @@ fn policies_of_one_arc(rt: HostRuntime) -> Result<(), Fail> {
     same_policy(&rt, rt.alloc(), &mut session, (1, 2, 4), &LATE)
 }
 
-// An ask that found no memory, asked again. Here there is enough; `rt try --test --fail-alloc N` has
-// one allocation find none.
+// An ask that found no memory, asked again. Here there is enough; `rt try --test --fail-alloc N`
+// has one allocation find none.
 #[test]
 fn asks_after_a_want(rt: HostRuntime) -> Result<(), Fail> {
     let mut session = Session::new(rt.alloc(), triangle(rt.alloc())?)?;

@@ -10,6 +10,12 @@ returns-clause-policy c =
     let name : parse_name (112 ∷ []) ≡ Ok (112 ∷ []) = name_read (112 ∷ []) (112 ∷ [], (refl, refl)) in
     rw name refl
 
+pub returns-clause-bracket : goal.returns-clause-bracket
+unfolding lib.Utf8.encode
+returns-clause-bracket c =
+    let name : parse_name (112 ∷ []) ≡ Ok (112 ∷ []) = name_read (112 ∷ []) (112 ∷ [], (refl, refl)) in
+    rw name refl
+
 pub returns-clause-need : goal.returns-clause-need
 unfolding fixed grain_spelling
 returns-clause-need c = refl

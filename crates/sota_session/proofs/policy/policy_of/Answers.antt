@@ -1,6 +1,5 @@
-use Rattle.std.proofs.Common.{◌≡◌, ◌≤◌, Result, sym, subst, ◌∙◌, IfOk, refl}
-use Rattle.sota_units.specs.Rounding.{SCALE_LIMIT}
-use Rattle.sota_polfile.specs.Table.{Table, IsTable}
+use Rattle.std.proofs.Common.{◌≡◌, Result, sym, subst, ◌∙◌, IfOk, refl}
+use Rattle.sota_polfile.specs.Table.{Table, IsHead, IsTable}
 use Rattle.sota_polfile.specs.declared.fault.PolicyFault.{PolicyFault}
 use Rattle.sota_check.specs.Planned.{ask_head, IsPlanFile}
 use Rattle.sota_session.specs.Plans.{plan_table}
@@ -17,33 +16,17 @@ planned c = record {
 }
 
 -- the parts that are handed over
-abbrev handed : goal.After-from_parts → Table
-handed c = record {
-  head = (record {
-    nodes = c.nodes.result;
-    dest = c.get.result;
-    origin = c.get-2.result;
-    budget = c.args.ask.now.budget;
-    scale = c.get-3.result;
-  });
-  rows = c.in_ok-rows.rows.items;
-}
+abbrev handed : After-from_parts → Table
+handed c = record { head = c.head_of-head.result; rows = c.in_ok-rows.rows.items }
 
-parts : (c : goal.After-from_parts) → handed c ≡ record { head = ask_head c.args.network.now c.args.ask.now.origin c.args.ask.now.dest c.args.ask.now.budget; rows = c.in_ok-rows.rows.items }
-parts c = rw (c.nodes.ensures.value, c.get.ensures, c.get-2.ensures, c.get-3.ensures.value, c.scale.ensures.value) refl
+parts : (c : After-from_parts) → handed c ≡ record { head = ask_head c.args.network.now c.args.ask.now.origin c.args.ask.now.dest c.args.ask.now.budget; rows = c.in_ok-rows.rows.items }
+parts c = rw c.head_of-head.ensures.value refl
 
-valid : (c : goal.After-from_parts) → IsPlannedFor c.args.network.now c.args.ask.now c.args.region.now c.args.tables.now → IsTable (handed c)
+valid : (c : After-from_parts) → IsPlannedFor c.args.network.now c.args.ask.now c.args.region.now c.args.tables.now → IsTable (handed c)
 valid c is =
-    let scale : (1 ≤ c.scale.result) × (c.scale.result ≤ SCALE_LIMIT) = (c.get-3.ensures.positive, c.get-3.ensures.within) in
     subst IsTable (sym (parts c))
     (rows-table c.args.network.now c.args.ask.now c.args.region.now c.args.tables.now is c.in_ok-rows.rows.items c.in_ok-rows.ensures.made c.in_ok-rows.ensures.valid
-    (record {
-      nodes = c.nodes.ensures.within;
-      dest = c.requires.in_range.dest;
-      origin = c.requires.in_range.origin;
-      budget = c.requires.in_range.budget;
-      scale = rw c.scale.ensures.value at scale;
-    }))
+    (subst IsHead c.head_of-head.ensures.value c.head_of-head.ensures.valid))
 
 pub unwrap-requires : goal.unwrap-requires
 unwrap-requires c = c.from_parts.ensures.valid.1 (valid c (planned (goal.at.unwrap-requires c).After-plans_hold))
@@ -57,10 +40,10 @@ returns c =
     let made = subst (λ (r : Result Table PolicyFault). IfOk r (λ table. table ≡ handed given)) c.unwrap.ensures c.from_parts.ensures.made in
     let file : c.unwrap.result ≡ plan_table net ask = made ∙ parts given ∙ table-planned net ask c.args.region.now c.args.tables.now is c.in_ok-rows.rows.items c.in_ok-rows.ensures.made in
     let is_table = subst IsTable (sym made) (valid given is) in
-    let is_file = subst (IsPlanFile net ask.origin ask.dest ask.budget) (sym file) (c.plans_by_least_times.ensures net ask c.nodes.ensures.valid) in
-    let plan = c.rows_make_plans.ensures.file net ask.origin ask.dest ask.budget c.unwrap.result c.nodes.ensures.valid is_table is_file in
+    let is_file = subst (IsPlanFile net ask.origin ask.dest ask.budget) (sym file) (c.plans_by_least_times.ensures net ask c.head_of-head.ensures.net) in
+    let plan = c.rows_make_plans.ensures.file net ask.origin ask.dest ask.budget c.unwrap.result c.head_of-head.ensures.net is_table is_file in
     record {
       file = file;
-      certified = c.plans_hold.ensures.certified net ask.origin ask.dest ask.budget c.unwrap.result c.nodes.ensures.valid plan;
-      bound = c.plans_hold.ensures.bound net ask.origin ask.dest ask.budget c.unwrap.result c.nodes.ensures.valid plan;
+      certified = c.plans_hold.ensures.certified net ask.origin ask.dest ask.budget c.unwrap.result c.head_of-head.ensures.net plan;
+      bound = c.plans_hold.ensures.bound net ask.origin ask.dest ask.budget c.unwrap.result c.head_of-head.ensures.net plan;
     }
