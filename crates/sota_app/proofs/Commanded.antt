@@ -5,7 +5,7 @@ use Rattle.sota_edge.specs.Sink.{SinkState, Wrote}
 use Rattle.sota_network.specs.Network.{Net}
 use Rattle.sota_script.specs.declared.command.Command.{Command}
 use Rattle.sota_app.specs.Outputs.{text_of}
-use Rattle.sota_app.specs.Replies.{reply_line, replies_text}
+use Rattle.sota_app.specs.Replies.{spell, replies_text}
 use Rattle.sota_app.specs.Script.{command_on, command_refusal, effect_of, unless_refused}
 use Rattle.sota_app.specs.Script.{result_step, step, replies_to}
 use Rattle.sota_app.specs.Outcome.{Outcome, outcome_of, play}
@@ -33,19 +33,20 @@ done_next net number command accepted =
 command_written : (line : CommandLine) (words : List (List ℕ)) (o : Option Request)
     (files : Files) (result : Status) (d e : DeskState) (s t : SinkState)
     → (done : IsDone words files line)
-    → Means o files (record { net = line.net; job = play done.lines })
+    → Means o files (record { net = line.net; job = play line.voice done.lines })
     → Delivered (outcome_of o files) result d e s t
     → Replied line (effect_of (command_net line) line.command).reply s t
 command_written line words o files result d e s t done work all =
     let net = command_net line in
     subst (λ (text : List ℕ). Wrote text s t)
     (ap (λ (o : Outcome). text_of o.outputs) (work_done o files _ work)
-    ∙ text_replied (replies_to line.net done.lines)
-    ∙ ap (λ lines. replies_text (replies_to line.net lines)) done.place
-    ∙ line_in_text line.net line.above (command_on line.number line.command) line.below
+    ∙ text_replied line.voice (replies_to line.net done.lines)
+    ∙ ap (λ lines. replies_text line.voice (replies_to line.net lines)) done.place
+    ∙ line_in_text line.voice line.net line.above (command_on line.number line.command) line.below
     (effect_of net line.command).reply (done_reply net line.number line.command done.accepted)
-    ∙ ap (λ (next : Net). replies_text (replies_to line.net line.above)
-    ++ (reply_line (effect_of net line.command).reply ++ replies_text (replies_to next line.below)))
+    ∙ ap (λ (next : Net). replies_text line.voice (replies_to line.net line.above)
+    ++ (spell line.voice (effect_of net line.command).reply
+    ++ replies_text line.voice (replies_to next line.below)))
     (done_next net line.number line.command done.accepted))
     all.made.text
 
@@ -53,7 +54,7 @@ command_written line words o files result d e s t done work all =
 pub command_replied : (line : CommandLine) (words : List (List ℕ)) (o : Option Request)
     (files : Files) (result : Status) (d e : DeskState) (s t : SinkState) (command : Command)
     → line.command ≡ command → (done : IsDone words files line)
-    → Means o files (record { net = line.net; job = play done.lines })
+    → Means o files (record { net = line.net; job = play line.voice done.lines })
     → Delivered (outcome_of o files) result d e s t
     → Replied line (effect_of (command_net line) command).reply s t
 command_replied line words o files result d e s t command is done work all =

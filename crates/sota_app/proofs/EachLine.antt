@@ -10,14 +10,14 @@ use Rattle.sota_network.specs.Network.{Net, IsNet, replaced}
 use Rattle.sota_script.specs.declared.command.Ask3.{Ask3}
 use Rattle.sota_script.specs.declared.command.Command.{Command}
 use Rattle.sota_script.specs.declared.command.Command.TheVariants as commands
-use Rattle.sota_script.specs.declared.fault.LineFault.{LineFault}
 use Rattle.sota_session.specs.Asks.{ask_fault, answer_of}
 use Rattle.sota_session.specs.declared.ask.AskFault.{AskFault}
-use Rattle.sota_app.specs.Replies.{reply_line, replies_text}
+use Rattle.sota_app.specs.Replies.{spell, replies_text}
 use Rattle.sota_app.specs.Script.{ScriptLine, Effect, ask_on, session_ask, arc_refusal}
 use Rattle.sota_app.specs.Script.{command_refusal}
 use Rattle.sota_app.specs.Script.{effect_of, unless_refused, result_step, parsed_step, step}
 use Rattle.sota_app.specs.Script.{network_after, replies_to}
+use Rattle.sota_app.specs.declared.voice.Voice.{Voice}
 use Rattle.sota_app.specs.declared.reply.Reply.{Reply}
 use Rattle.sota_app.specs.declared.reply.Reply.TheVariants as replies
 use Rattle.sota_app.specs.declared.reply.Refusal.{Refusal}
@@ -25,20 +25,20 @@ use Rattle.sota_app.specs.declared.reply.Refusal.TheVariants as refusals
 use Rattle.sota_app.proofs.Reaches.{around}
 
 -- the reply to a line stands after those to the lines above it
-pub line_in_text : (net : Net) (before : List ScriptLine) (line : ScriptLine)
+pub line_in_text : (voice : Voice) (net : Net) (before : List ScriptLine) (line : ScriptLine)
     (after : List ScriptLine) (reply : Reply)
     → (step (network_after net before) line).reply ≡ Some reply
-    → replies_text (replies_to net (before ++ line ∷ after))
-    ≡ replies_text (replies_to net before) ++ (reply_line reply
-    ++ replies_text (replies_to (step (network_after net before) line).next after))
-line_in_text net before line after reply is =
+    → replies_text voice (replies_to net (before ++ line ∷ after))
+    ≡ replies_text voice (replies_to net before) ++ (spell voice reply
+    ++ replies_text voice (replies_to (step (network_after net before) line).next after))
+line_in_text voice net before line after reply is =
     let rest : List ℕ =
-    replies_text (replies_to (step (network_after net before) line).next after) in
-    around before line after net (network_after net before) refl
-    ∙ ap (λ (reply : Option Reply). replies_text (replies_to net before)
-    ++ (replies_text (option_to_list reply) ++ rest)) is
-    ∙ ap (λ text. replies_text (replies_to net before) ++ (text ++ rest))
-    (append-nil (reply_line reply))
+    replies_text voice (replies_to (step (network_after net before) line).next after) in
+    around voice before line after net (network_after net before) refl
+    ∙ ap (λ (reply : Option Reply). replies_text voice (replies_to net before)
+    ++ (replies_text voice (option_to_list reply) ++ rest)) is
+    ∙ ap (λ text. replies_text voice (replies_to net before) ++ (text ++ rest))
+    (append-nil (spell voice reply))
 
 -- an ask that is not refused is answered on the network of its line
 pub answered_reply : (net : Net) (number : ℕ) (ask : Ask3) → ask_fault net (session_ask ask) ≡ None
@@ -93,10 +93,10 @@ edit_keeps built kept net arc pairs valid none =
 closed_time : IsTime []
 closed_time = search rules
 
-line_keeps : Built → Kept → (net : Net) (number : ℕ) (parsed : Result (Option Command) LineFault)
+line_keeps : Built → Kept → (net : Net) (number : ℕ) (parsed : Result (Option Command) Refusal)
     → IsNet net → IsNet (parsed_step net number parsed).next
 line_keeps built kept net number (Ok None) valid = valid
-line_keeps built kept net number (Err fault) valid = valid
+line_keeps built kept net number (Err refusal) valid = valid
 line_keeps built kept net number (Ok (Some (commands.Edit arc pairs))) valid =
     refused_keeps (command_refusal net (commands.Edit arc pairs)) net number
     (effect_of net (commands.Edit arc pairs)) valid (edit_keeps built kept net arc pairs valid)
@@ -110,6 +110,9 @@ line_keeps built kept net number (Ok (Some (commands.Ask ask))) valid =
 line_keeps built kept net number (Ok (Some (commands.Policy ask name))) valid =
     refused_keeps (command_refusal net (commands.Policy ask name)) net number
     (effect_of net (commands.Policy ask name)) valid (λ accepted. valid)
+line_keeps built kept net number (Ok (Some (commands.Bracket ask name))) valid =
+    refused_keeps (command_refusal net (commands.Bracket ask name)) net number
+    (effect_of net (commands.Bracket ask name)) valid (λ accepted. valid)
 line_keeps built kept net number (Ok (Some (commands.Route dest budget arcs))) valid =
     refused_keeps (command_refusal net (commands.Route dest budget arcs)) net number
     (effect_of net (commands.Route dest budget arcs)) valid (λ accepted. valid)

@@ -6,7 +6,7 @@ use Rattle.sota_edge.specs.Desk.{Files, DeskState}
 use Rattle.sota_edge.specs.Sink.{SinkState}
 use Rattle.sota_network.specs.Network.{Net}
 use Rattle.sota_check.specs.Rejected.{rejection}
-use Rattle.sota_check.specs.declared.verdict.Rejection.{Rejection}
+use Rattle.sota_check.specs.BracketRejected.{bracket_rejection}
 use Rattle.sota_app.specs.Outputs.{Output, NextBegun, Begun, StoreMissed, Stopped, Ends, LineEnds}
 use Rattle.sota_app.specs.Outputs.{only_line}
 use Rattle.sota_app.specs.Replies.{some_refused, lines_status}
@@ -17,7 +17,7 @@ use Rattle.sota_app.specs.declared.showing.Plan.{Plan}
 use Rattle.sota_session.specs.declared.ask.Ask.{Ask}
 use Rattle.sota_session.specs.declared.ask.AskFault.{AskFault}
 use Rattle.sota_app.specs.InputFaults.{fault_line}
-use Rattle.sota_app.specs.Outcome.{Outcome, outcome_of, Job, play, judge, replay, show}
+use Rattle.sota_app.specs.Outcome.{Outcome, outcome_of, Job, play, judge, judge_bracket, replay, show}
 use Rattle.sota_app.specs.Outcome.{Work, work_of, work_outcome}
 use Rattle.sota_app.specs.Outcome.{plan_outcome, job_outcome, refused_words}
 use Rattle.sota_app.specs.Causes.{Cause, Ended, Delivered, Known, Took, UnreadInput, Stands}
@@ -124,7 +124,7 @@ lines_cause : (refused : Bool) (request : Request) (d e : DeskState) (s t : Sink
 lines_cause true request d e s t stands = stands
 lines_cause false request d e s t stands = stands
 
-verdict_cause : (cause : Option Rejection) (request : Request) (d e : DeskState)
+verdict_cause : {A : Type 0} (cause : Option A) (request : Request) (d e : DeskState)
     (s t : SinkState) → Stands (verdict_status cause) (Some request) d e s t
     → Cause (verdict_status cause) (Some request) d e s t
 verdict_cause None request d e s t stands = stands
@@ -141,10 +141,12 @@ shown_cause net ask (Err fault) request d e s t stands = stands
 done_cause : (net : Net) (job : Job) (request : Request) (d e : DeskState) (s t : SinkState)
     → Stands (job_outcome net job).status (Some request) d e s t
     → Cause (job_outcome net job).status (Some request) d e s t
-done_cause net (play lines) request d e s t stands =
+done_cause net (play voice lines) request d e s t stands =
     lines_cause (some_refused (replies_to net lines)) request d e s t stands
 done_cause net (judge table) request d e s t stands =
     verdict_cause (rejection net table) request d e s t stands
+done_cause net (judge_bracket table) request d e s t stands =
+    verdict_cause (bracket_rejection net table) request d e s t stands
 done_cause net (replay table trips) request d e s t stands =
     verdict_cause (rejection net table) request d e s t stands
 done_cause net (show ask) request d e s t stands =

@@ -7,12 +7,12 @@ use Rattle.sota_edge.specs.Desk.{Files, DeskState}
 use Rattle.sota_edge.specs.Sink.{SinkState, Wrote}
 use Rattle.sota_edge.specs.Counts.{Rose}
 use Rattle.sota_network.specs.Network.{Net}
-use Rattle.sota_app.specs.Requests.{FileRequest}
+use Rattle.sota_app.specs.Requests.{FileRequest, ReportRequest}
 use Rattle.sota_app.specs.Outcome.{outcome_of, no_input, refused_words, graph_of, is_dash}
-use Rattle.sota_app.specs.Outcome.{with_hists}
-use Rattle.sota_app.specs.Outcome.{network_of, script_of, table_of, work_of, work_outcome}
+use Rattle.sota_app.specs.Outcome.{with_hists, names_of, Work}
+use Rattle.sota_app.specs.Outcome.{network_of, script_of, table_of, any_table_of, work_of, work_outcome}
 use Rattle.sota_app.specs.Causes.{Cause, Delivered, NoFault, Unread, UnreadNetwork, UnreadLast}
-use Rattle.sota_app.specs.Causes.{UnreadInput}
+use Rattle.sota_app.specs.Causes.{UnreadReport, UnreadInput}
 use Rattle.sota_app.specs.declared.input.NoInput.{NoInput}
 use Rattle.sota_app.specs.declared.input.NoInput.TheVariants as ends
 use Rattle.sota_app.specs.declared.words.Request.{Request}
@@ -72,6 +72,36 @@ unread_last names last next files d e tells calm gone h = elim h [
       (at_files d.holds files _ tells after.0) (λ net. rw none refl)
 ]
 
+-- the script after a network and names of places
+unread_script : {A B C : Type 0} (read : Result A NoInput) (middle : A → Result B NoInput)
+    (last : Result C NoInput) (next : A → B → C → Result Work NoInput)
+    → IsOk (read >>= middle) → last ≡ Err ends.Unread
+    → (read >>= λ net. middle net >>= λ places. last >>= next net places) ≡ Err ends.Unread
+unread_script (Ok net) middle last next ok none =
+    err_after (middle net) _ ends.Unread ok (λ places. rw none refl)
+unread_script (Err end) middle last next ok none = absurd (cc)
+
+unread_report : (words : ReportRequest) (files : Files) (d e : DeskState) → d.holds ≡ Some files
+    → (Rose d.load_faults e.load_faults → ⊥) → UnreadReport words d e
+    → work_of (requests.Report words) files ≡ Err ends.Unread
+unread_report words files d e tells calm h = elim h [
+  | inl network ↦
+      rw (unread_network words.graph words.hists files d e tells calm network) refl
+  | inr after ↦ elim after [
+    | inl names ↦
+        let gone : files words.names ≡ None =
+        unread_gone words.names files d e tells calm names.1 in
+        err_after (network_of words.graph words.hists files) _ ends.Unread
+        (at_files d.holds files _ tells names.0) (λ net. rw gone refl)
+    | inr script ↦
+        let gone : files words.script ≡ None =
+        unread_gone words.script files d e tells calm script.1 in
+        unread_script (network_of words.graph words.hists files) (names_of words.names files)
+        (script_of words.script files) _
+        (at_files d.holds files _ tells script.0) (rw gone refl)
+  ]
+]
+
 unread_work : (request : Request) (files : Files) (d e : DeskState) → d.holds ≡ Some files
     → (Rose d.load_faults e.load_faults → ⊥) → UnreadInput request d e
     → work_of request files ≡ Err ends.Unread
@@ -81,11 +111,13 @@ unread_work (requests.Run run) files d e tells calm h =
     unread_last run (script_of run.file files) _ files d e tells calm
     (λ (none : files run.file ≡ None). rw none refl) h
 unread_work (requests.Check check) files d e tells calm h =
-    unread_last check (table_of check.file files) _ files d e tells calm
+    unread_last check (any_table_of check.file files) _ files d e tells calm
     (λ (none : files check.file ≡ None). rw none refl) h
 unread_work (requests.Replay words) files d e tells calm h =
     unread_last words.names (table_of words.names.file files) _ files d e tells calm
     (λ (none : files words.names.file ≡ None). rw none refl) h
+unread_work (requests.Report words) files d e tells calm h =
+    unread_report words files d e tells calm h
 unread_work (requests.Make make) files d e tells calm h = absurd h
 
 unread_outcome : (o : Option Request) (files : Files) (d e : DeskState) (s t : SinkState)

@@ -1,7 +1,6 @@
 -- A job that was done is not idle.
 use Rattle.std.proofs.Common.{◌≡◌, Bool, true, false, Option, None, Some, Result, Ok, Err, IfOk, subst}
 use Rattle.sota_network.specs.Network.{Net}
-use Rattle.sota_check.specs.declared.verdict.Rejection.{Rejection}
 use Rattle.sota_session.specs.declared.ask.Ask.{Ask}
 use Rattle.sota_session.specs.declared.ask.AskFault.{AskFault}
 use Rattle.sota_app.specs.Replies.{lines_status, some_refused}
@@ -9,17 +8,18 @@ use Rattle.sota_app.specs.Script.{session_ask, replies_to}
 use Rattle.sota_app.specs.Verdicts.{verdict_status}
 use Rattle.sota_app.specs.Shown.{plan_result}
 use Rattle.sota_app.specs.Inputs.{IsIdle}
-use Rattle.sota_app.specs.Outcome.{Job, play, judge, replay, show, job_outcome, plan_outcome}
+use Rattle.sota_app.specs.Outcome.{Job, play, judge, judge_bracket, replay, show, job_outcome, plan_outcome}
 use Rattle.sota_app.specs.declared.showing.Plan.{Plan}
 use Rattle.sota_app.specs.declared.status.Status.{Status}
 use Rattle.sota_app.specs.declared.stop.Stop.{Stop}
 use Rattle.sota_check.specs.Rejected.{rejection}
+use Rattle.sota_check.specs.BracketRejected.{bracket_rejection}
 
 lines_worked : (refused : Bool) → IsIdle (lines_status refused) → ⊥
 lines_worked true idle = idle
 lines_worked false idle = idle
 
-verdict_worked : (cause : Option Rejection) → IsIdle (verdict_status cause) → ⊥
+verdict_worked : {A : Type 0} (cause : Option A) → IsIdle (verdict_status cause) → ⊥
 verdict_worked None idle = idle
 verdict_worked (Some cause) idle = idle
 
@@ -29,8 +29,9 @@ plan_worked net ask (Ok plan) idle = verdict_worked (rejection net plan.table) i
 plan_worked net ask (Err fault) idle = idle
 
 pub job_worked : (net : Net) (job : Job) → IsIdle (job_outcome net job).status → ⊥
-job_worked net (play lines) idle = lines_worked (some_refused (replies_to net lines)) idle
+job_worked net (play voice lines) idle = lines_worked (some_refused (replies_to net lines)) idle
 job_worked net (judge table) idle = verdict_worked (rejection net table) idle
+job_worked net (judge_bracket table) idle = verdict_worked (bracket_rejection net table) idle
 job_worked net (replay table trips) idle = verdict_worked (rejection net table) idle
 job_worked net (show ask) idle =
     plan_worked net (session_ask ask) (plan_result net (session_ask ask)) idle

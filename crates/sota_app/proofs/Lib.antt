@@ -19,3 +19,5 @@ pub mod ShownPlan
 pub mod ThreeLines
 pub mod MeantBounds
 pub mod Prefixes
+pub mod TextWords
+pub mod Resolved

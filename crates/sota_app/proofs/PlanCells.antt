@@ -1,8 +1,7 @@
 -- The policy of an ask has an entry for each pair of its region, so that it is small where the
 -- region is.
-use Rattle.std.proofs.Common.{◌≡◌, ℕ, zero, suc, ◌+◌, ◌≤◌, ◌<◌, ◌++◌, List, [], ◌∷◌, Option, Some}
-use Rattle.std.proofs.Common.{None, option_map, length, refl, ap, ◌∙◌, arith, ⊎_elim}
-use Rattle.std.specs.Option.{option_or}
+use Rattle.std.proofs.Common.{◌≡◌, ℕ, zero, suc, ◌+◌, ◌≤◌, ◌<◌, ◌++◌, List, [], ◌∷◌}
+use Rattle.std.proofs.Common.{length, refl, ap, ◌∙◌, arith, ⊎_elim}
 use Rattle.std.specs.List.{filter_map, range_with_len, sum, sum_by}
 use Rattle.std.proofs.lemmas.Bool.{cases_lt, lt-ltb, le-ltb}
 use Rattle.std.proofs.lemmas.List.Sums.{sum_by-append}
@@ -10,16 +9,13 @@ use Rattle.std.proofs.lemmas.List.Elements.{filter_map-append}
 use Rattle.std.proofs.lemmas.List.FromFn.{length-map-range_with_len}
 use Rattle.sota_network.specs.Network.{Net}
 use Rattle.sota_network.specs.Numbers.{listed}
-use Rattle.sota_network.specs.Region.{pairs_at, table_cells, broad_cells}
-use Rattle.sota_bounds.specs.Faults.{TABLE_LIMIT, cells_fault}
+use Rattle.sota_network.specs.Region.{pairs_at, table_cells}
+use Rattle.sota_bounds.specs.Faults.{TABLE_LIMIT}
 use Rattle.sota_polfile.specs.Table.{cells}
 use Rattle.sota_polfile.specs.declared.row.PolicyRow.{PolicyRow}
 use Rattle.sota_check.specs.Planned.{grid_entry}
-use Rattle.sota_session.specs.Asks.{ask_fault, range_fault, size_cause}
 use Rattle.sota_session.specs.Plans.{first_budget, plan_row, row_of, plan_table}
 use Rattle.sota_session.specs.declared.ask.Ask.{Ask}
-use Rattle.sota_session.specs.declared.ask.AskFault.{AskFault}
-use Rattle.sota_session.specs.declared.ask.AskFault.TheVariants.{TableCells}
 
 abbrev pub entries : List PolicyRow → ℕ
 entries rows = sum_by (λ row. length row.entries) rows
@@ -63,28 +59,11 @@ rows_entries net ask (suc n) =
     (filter_map (row_of net ask) (suc n ∷ []))
     ∙ omega (arith, before, last, all)
 
-refused : (range : Option AskFault) (fault : AskFault) → option_or range (Some fault) ≡ None → ⊥
-refused None fault is = cc
-refused (Some other) fault is = cc
-
-by_count : (table broad : ℕ) (range : Option AskFault)
-    → option_or range (option_map size_cause (cells_fault table broad)) ≡ None
-    → table ≤ TABLE_LIMIT
-by_count table broad range none =
-    ⊎_elim
-    (λ (large : TABLE_LIMIT < table).
-    let found : option_or range (Some (TableCells table)) ≡ None =
-    (rw (lt-ltb TABLE_LIMIT table large) at none) in
-    absurd (refused range (TableCells table) found))
-    (λ (fits : table ≤ TABLE_LIMIT). fits)
-    (cases_lt TABLE_LIMIT table)
-
--- the policy of an ask that is not refused is no larger than a region may be
-pub few_cells : (net : Net) (ask : Ask) → ask_fault net ask ≡ None
+-- the policy of an ask is no larger than its region
+pub few_cells : (net : Net) (ask : Ask)
+    → table_cells net ask.origin ask.dest ask.budget ≤ TABLE_LIMIT
     → cells (plan_table net ask) ≤ TABLE_LIMIT
 unfolding plan_table
-few_cells net ask none =
+few_cells net ask fits =
     let count = rows_entries net ask net.nodes in
-    let fits = by_count (table_cells net ask.origin ask.dest ask.budget)
-    (broad_cells net ask.origin ask.dest ask.budget) (range_fault net ask) none in
     omega (arith, count, fits)

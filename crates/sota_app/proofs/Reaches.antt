@@ -10,9 +10,10 @@ use Rattle.sota_edge.specs.Desk.{DeskState}
 use Rattle.sota_edge.specs.Sink.{SinkState}
 use Rattle.sota_network.specs.Network.{Net}
 use Rattle.sota_app.specs.Outputs.{Output, Ends, Stopped}
-use Rattle.sota_app.specs.Replies.{reply_line, reply_output, is_refusal, replies_text, outputs_of}
+use Rattle.sota_app.specs.Replies.{spell, reply_output, is_refusal, replies_text, outputs_of}
 use Rattle.sota_app.specs.Replies.{some_refused, lines_status, replies_status}
 use Rattle.sota_app.specs.Script.{ScriptLine, Step, step, network_after, replies_to}
+use Rattle.sota_app.specs.declared.voice.Voice.{Voice}
 use Rattle.sota_app.specs.declared.reply.Reply.{Reply}
 use Rattle.sota_app.specs.declared.stop.Stop.{Stop}
 use Rattle.sota_app.proofs.Made.{done, stopped_by, none_made, ends_then, stopped_more}
@@ -33,55 +34,59 @@ replies_append net (line ∷ a) b =
     ∙ sym (append_assoc (option_to_list (step net line).reply) (replies_to (step net line).next a)
     (replies_to (network_after (step net line).next a) b))
 
-pub text_append : (a b : List Reply) → replies_text (a ++ b) ≡ replies_text a ++ replies_text b
-text_append a b = flat_map-append reply_line a b
+pub text_append : (voice : Voice) (a b : List Reply)
+    → replies_text voice (a ++ b) ≡ replies_text voice a ++ replies_text voice b
+text_append voice a b = flat_map-append (spell voice) a b
 
 refused_append : (a b : List Reply) → some_refused (a ++ b) ≡ (some_refused a || some_refused b)
 refused_append a b = list_any-append is_refusal a b
 
-outputs_append : (a b : List Reply) → outputs_of (a ++ b) ≡ outputs_of a ++ outputs_of b
-outputs_append a b = map-append reply_output a b
+outputs_append : (voice : Voice) (a b : List Reply)
+    → outputs_of voice (a ++ b) ≡ outputs_of voice a ++ outputs_of voice b
+outputs_append voice a b = map-append (reply_output voice) a b
 
 -- the text of the replies, around those to one line
-pub around : (before : List ScriptLine) (line : ScriptLine) (after : List ScriptLine)
-    (net now : Net)
+pub around : (voice : Voice) (before : List ScriptLine) (line : ScriptLine)
+    (after : List ScriptLine) (net now : Net)
     → now ≡ network_after net before
-    → replies_text (replies_to net (before ++ line ∷ after))
-    ≡ replies_text (replies_to net before) ++ (replies_text (option_to_list (step now line).reply)
-    ++ replies_text (replies_to (step now line).next after))
-around before line after net now is =
-    ap replies_text (replies_append net before (line ∷ after)
+    → replies_text voice (replies_to net (before ++ line ∷ after))
+    ≡ replies_text voice (replies_to net before)
+    ++ (replies_text voice (option_to_list (step now line).reply)
+    ++ replies_text voice (replies_to (step now line).next after))
+around voice before line after net now is =
+    ap (replies_text voice) (replies_append net before (line ∷ after)
     ∙ ap (λ (net' : Net). replies_to net before ++ replies_to net' (line ∷ after)) (sym is))
-    ∙ text_append (replies_to net before)
+    ∙ text_append voice (replies_to net before)
     (option_to_list (step now line).reply ++ replies_to (step now line).next after)
-    ∙ ap (λ bytes. replies_text (replies_to net before) ++ bytes)
-    (text_append (option_to_list (step now line).reply) (replies_to (step now line).next after))
+    ∙ ap (λ bytes. replies_text voice (replies_to net before) ++ bytes)
+    (text_append voice (option_to_list (step now line).reply) (replies_to (step now line).next after))
 
 -- ---- a script that is played so far
 
 -- the outputs of the replies to lines
-abbrev pub outputs_to : Net → List ScriptLine → List Output
-outputs_to net lines = outputs_of (replies_to net lines)
+abbrev pub outputs_to : Voice → Net → List ScriptLine → List Output
+outputs_to voice net lines = outputs_of voice (replies_to net lines)
 
 -- these lines are played
-pub record Reached (before : List ScriptLine) (net now : Net) (refused : Bool)
+pub record Reached (voice : Voice) (before : List ScriptLine) (net now : Net) (refused : Bool)
     (d e : DeskState) (s t : SinkState) : Type 0 where
   pub network : now ≡ network_after net before
   pub some : refused ≡ some_refused (replies_to net before)
-  pub made : Ends (done refused) (outputs_to net before) d e s t
+  pub made : Ends (done refused) (outputs_to voice net before) d e s t
 
-pub reach_none : (net : Net) (d : DeskState) (s : SinkState) → Reached [] net net false d d s s
-reach_none net d s = record {
+pub reach_none : (voice : Voice) (net : Net) (d : DeskState) (s : SinkState)
+    → Reached voice [] net net false d d s s
+reach_none voice net d s = record {
   network = refl;
   some = refl;
   made = (none_made d.holds d.holds s s refl refl, omega arith, omega arith);
 }
 
 -- what a call left as it was, is where it was reached
-pub still_reached : (before : List ScriptLine) (net now : Net) (refused : Bool)
+pub still_reached : (voice : Voice) (before : List ScriptLine) (net now : Net) (refused : Bool)
     (d m n : DeskState) (s u v : SinkState) → n ≡ m → v ≡ u
-    → Reached before net now refused d m s u → Reached before net now refused d n s v
-still_reached before net now refused d m n s u v desk sink reached = rw desk (rw sink reached)
+    → Reached voice before net now refused d m s u → Reached voice before net now refused d n s v
+still_reached voice before net now refused d m n s u v desk sink reached = rw desk (rw sink reached)
 
 -- the replies to one line more
 one_more : (before : List ScriptLine) (line : ScriptLine) (net now : Net)
@@ -95,30 +100,31 @@ one_more before line net now is =
     (append-nil (option_to_list (step now line).reply))
 
 -- how the making of the output of a line ended, from where its lines above ended
-line_made : {A : Type 0} (result : Result A Stop) (before : List ScriptLine) (line : ScriptLine)
+line_made : {A : Type 0} (voice : Voice) (result : Result A Stop) (before : List ScriptLine)
+    (line : ScriptLine)
     (net now next : Net) (refused : Bool) (reply : Option Reply)
-    (d m e : DeskState) (s u t : SinkState) → Reached before net now refused d m s u
+    (d m e : DeskState) (s u t : SinkState) → Reached voice before net now refused d m s u
     → record { reply = reply; next = next } ≡ step now line
-    → Ends result (outputs_of (option_to_list reply)) m e u t
-    → Ends result (outputs_to net (before ++ line ∷ [])) d e s t
-line_made result before line net now next refused reply d m e s u t reached stepped ends =
-    let both = ends_then refused result (outputs_to net before)
-    (outputs_of (option_to_list reply)) d m e s u t reached.made ends in
+    → Ends result (outputs_of voice (option_to_list reply)) m e u t
+    → Ends result (outputs_to voice net (before ++ line ∷ [])) d e s t
+line_made voice result before line net now next refused reply d m e s u t reached stepped ends =
+    let both = ends_then refused result (outputs_to voice net before)
+    (outputs_of voice (option_to_list reply)) d m e s u t reached.made ends in
     subst (λ (outputs : List Output). Ends result outputs d e s t)
-    (sym (outputs_append (replies_to net before) (option_to_list reply))
-    ∙ ap (λ (step : Step). outputs_of (replies_to net before ++ option_to_list step.reply)) stepped
-    ∙ ap outputs_of (sym (one_more before line net now reached.network)))
+    (sym (outputs_append voice (replies_to net before) (option_to_list reply))
+    ∙ ap (λ (step : Step). outputs_of voice (replies_to net before ++ option_to_list step.reply)) stepped
+    ∙ ap (outputs_of voice) (sym (one_more before line net now reached.network)))
     both
 
 -- what was replied to a line, and the network after it
-pub reach_more : (before : List ScriptLine) (line : ScriptLine) (net now next : Net)
+pub reach_more : (voice : Voice) (before : List ScriptLine) (line : ScriptLine) (net now next : Net)
     (refused more : Bool) (reply : Option Reply) (d m e : DeskState) (s u t : SinkState)
-    → Reached before net now refused d m s u
+    → Reached voice before net now refused d m s u
     → record { reply = reply; next = next } ≡ step now line
-    → Ends (done more) (outputs_of (option_to_list reply)) m e u t
+    → Ends (done more) (outputs_of voice (option_to_list reply)) m e u t
     → more ≡ some_refused (option_to_list reply)
-    → Reached (before ++ line ∷ []) net next (refused || more) d e s t
-reach_more before line net now next refused more reply d m e s u t reached stepped ends is =
+    → Reached voice (before ++ line ∷ []) net next (refused || more) d e s t
+reach_more voice before line net now next refused more reply d m e s u t reached stepped ends is =
     let same : option_to_list reply ≡ option_to_list (step now line).reply =
     ap (λ (s : Step). option_to_list s.reply) stepped in
     record {
@@ -129,72 +135,73 @@ reach_more before line net now next refused more reply d m e s u t reached stepp
           ∙ ap (λ b. some_refused (replies_to net before) || b) (is ∙ ap some_refused same)
           ∙ sym (refused_append (replies_to net before) (option_to_list (step now line).reply))
           ∙ ap some_refused (sym (one_more before line net now reached.network));
-      made = line_made (done more) before line net now next refused reply
+      made = line_made voice (done more) before line net now next refused reply
           d m e s u t reached stepped ends;
     }
 
 -- all lines are played
-pub reach_all : (all before : List ScriptLine) (net now : Net) (refused : Bool)
+pub reach_all : (voice : Voice) (all before : List ScriptLine) (net now : Net) (refused : Bool)
     (d e : DeskState) (s t : SinkState) → all ≡ before ++ []
-    → Reached before net now refused d e s t
-    → Ends (done (lines_status refused)) (outputs_to net all) d e s t
-reach_all all before net now refused d e s t is reached =
+    → Reached voice before net now refused d e s t
+    → Ends (done (lines_status refused)) (outputs_to voice net all) d e s t
+reach_all voice all before net now refused d e s t is reached =
     subst (λ (lines : List ScriptLine).
-    Ends (done (lines_status refused)) (outputs_to net lines) d e s t)
+    Ends (done (lines_status refused)) (outputs_to voice net lines) d e s t)
     (sym (is ∙ append-nil before)) reached.made
 
-pub all_status : (all before : List ScriptLine) (net now : Net) (refused : Bool)
+pub all_status : (voice : Voice) (all before : List ScriptLine) (net now : Net) (refused : Bool)
     (d e : DeskState) (s t : SinkState) → all ≡ before ++ []
-    → Reached before net now refused d e s t
+    → Reached voice before net now refused d e s t
     → lines_status refused ≡ replies_status (replies_to net all)
-all_status all before net now refused d e s t is reached =
+all_status voice all before net now refused d e s t is reached =
     ap lines_status reached.some
     ∙ ap (λ (lines : List ScriptLine). replies_status (replies_to net lines))
     (sym (is ∙ append-nil before))
 
 -- it stopped among the lines up to this one, so among all
-stops_among : (stop : Stop) (before : List ScriptLine) (line : ScriptLine)
+stops_among : (voice : Voice) (stop : Stop) (before : List ScriptLine) (line : ScriptLine)
     (after : List ScriptLine) (net : Net) (d e : DeskState) (s t : SinkState)
-    → Stopped stop (outputs_to net (before ++ line ∷ [])) d e s t
-    → Stopped stop (outputs_to net (before ++ line ∷ after)) d e s t
-stops_among stop before line after net d e s t stopped =
+    → Stopped stop (outputs_to voice net (before ++ line ∷ [])) d e s t
+    → Stopped stop (outputs_to voice net (before ++ line ∷ after)) d e s t
+stops_among voice stop before line after net d e s t stopped =
     let lines : (before ++ line ∷ []) ++ after ≡ before ++ line ∷ after =
     append_assoc before (line ∷ []) after in
     subst (λ (outputs : List Output). Stopped stop outputs d e s t)
-    (sym (outputs_append (replies_to net (before ++ line ∷ []))
+    (sym (outputs_append voice (replies_to net (before ++ line ∷ []))
     (replies_to (network_after net (before ++ line ∷ [])) after))
-    ∙ ap outputs_of (sym (replies_append net (before ++ line ∷ []) after))
-    ∙ ap (outputs_to net) lines)
-    (stopped_more stop (outputs_to net (before ++ line ∷ []))
-    (outputs_of (replies_to (network_after net (before ++ line ∷ [])) after)) d e s t stopped)
+    ∙ ap (outputs_of voice) (sym (replies_append net (before ++ line ∷ []) after))
+    ∙ ap (outputs_to voice net) lines)
+    (stopped_more stop (outputs_to voice net (before ++ line ∷ []))
+    (outputs_of voice (replies_to (network_after net (before ++ line ∷ [])) after)) d e s t stopped)
 
 -- the making of the output of a line stopped
-pub stops_at : (stop : Stop) (lines before : List ScriptLine) (line : ScriptLine)
+pub stops_at : (voice : Voice) (stop : Stop) (lines before : List ScriptLine) (line : ScriptLine)
     (after : List ScriptLine) (net now next : Net) (refused : Bool) (reply : Option Reply)
     (d m e : DeskState) (s u t : SinkState) → lines ≡ before ++ line ∷ after
-    → Reached before net now refused d m s u
+    → Reached voice before net now refused d m s u
     → record { reply = reply; next = next } ≡ step now line
-    → Stopped stop (outputs_of (option_to_list reply)) m e u t
-    → Stopped stop (outputs_to net lines) d e s t
-stops_at stop lines before line after net now next refused reply d m e s u t are reached stepped
+    → Stopped stop (outputs_of voice (option_to_list reply)) m e u t
+    → Stopped stop (outputs_to voice net lines) d e s t
+stops_at voice stop lines before line after net now next refused reply d m e s u t are reached stepped
     stopped =
-    subst (λ (lines : List ScriptLine). Stopped stop (outputs_to net lines) d e s t) (sym are)
-    (stops_among stop before line after net d e s t
-    (line_made (stopped_by Bool stop) before line net now next refused reply
+    subst (λ (lines : List ScriptLine). Stopped stop (outputs_to voice net lines) d e s t) (sym are)
+    (stops_among voice stop before line after net d e s t
+    (line_made voice (stopped_by Bool stop) before line net now next refused reply
     d m e s u t reached stepped stopped))
 
 -- it stopped before anything was made of a line
-pub stops_before : (stop : Stop) (before rest : List ScriptLine) (net now : Net) (refused : Bool)
-    (d m e : DeskState) (s u t : SinkState) → Reached before net now refused d m s u
+pub stops_before : (voice : Voice) (stop : Stop) (before rest : List ScriptLine)
+    (net now : Net) (refused : Bool)
+    (d m e : DeskState) (s u t : SinkState) → Reached voice before net now refused d m s u
     → Stopped stop [] m e u t
-    → Stopped stop (outputs_to net (before ++ rest)) d e s t
-stops_before stop before rest net now refused d m e s u t reached stopped =
+    → Stopped stop (outputs_to voice net (before ++ rest)) d e s t
+stops_before voice stop before rest net now refused d m e s u t reached stopped =
     subst (λ (outputs : List Output). Stopped stop outputs d e s t)
-    (sym (outputs_append (replies_to net before) (replies_to (network_after net before) rest))
-    ∙ ap outputs_of (sym (replies_append net before rest)))
-    (stopped_more stop (outputs_to net before)
-    (outputs_of (replies_to (network_after net before) rest)) d e s t
+    (sym (outputs_append voice (replies_to net before) (replies_to (network_after net before) rest))
+    ∙ ap (outputs_of voice) (sym (replies_append net before rest)))
+    (stopped_more stop (outputs_to voice net before)
+    (outputs_of voice (replies_to (network_after net before) rest)) d e s t
     (subst (λ (outputs : List Output). Stopped stop outputs d e s t)
-    (append-nil (outputs_to net before))
-    (ends_then refused (stopped_by Bool stop) (outputs_to net before) [] d m e s u t
+    (append-nil (outputs_to voice net before))
+    (ends_then refused (stopped_by Bool stop) (outputs_to voice net before) [] d m e s u t
     reached.made stopped)))

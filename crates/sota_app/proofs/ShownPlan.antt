@@ -8,7 +8,6 @@ use Rattle.sota_network.specs.Network.{Net}
 use Rattle.sota_network.specs.Grid.{lo}
 use Rattle.sota_check.specs.Rejected.{rejection}
 use Rattle.sota_check.specs.Certified.{value}
-use Rattle.sota_check.specs.declared.verdict.Rejection.{Rejection}
 use Rattle.sota_session.specs.Asks.{ask_fault, answer_of}
 use Rattle.sota_session.specs.Plans.{plan_table}
 use Rattle.sota_session.specs.declared.ask.Ask.{Ask}
@@ -110,7 +109,7 @@ not_worked A (ends.Fault fault) (Err stop) s t written = tt
 not_worked A ends.Unread result s t written = rw written.0 (λ worked. absurd worked)
 not_worked A ends.NoMemory result s t written = rw written.0 (λ worked. absurd worked)
 
-verdict_worked : (cause : Option Rejection) → IsWorked (verdict_status cause)
+verdict_worked : {A : Type 0} (cause : Option A) → IsWorked (verdict_status cause)
 verdict_worked None = tt
 verdict_worked (Some cause) = tt
 

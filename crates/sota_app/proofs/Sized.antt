@@ -4,6 +4,7 @@ use Rattle.std.proofs.Common.{option_map, option_and_then, if◌then◌else◌, 
 use Rattle.std.specs.Str.{bytes_eq}
 use Rattle.sota_make.specs.Made.{is_size}
 use Rattle.sota_app.specs.Words.{request_of, ask_request, file_request, replay_request}
+use Rattle.sota_app.specs.Words.{report_request}
 use Rattle.sota_app.specs.Words.{five, make_of, if_sized, IsSized}
 use Rattle.sota_app.specs.declared.words.MakeWords.{MakeWords}
 use Rattle.sota_app.specs.declared.words.Request.{Request}
@@ -43,4 +44,6 @@ all_sized (first ∷ words) =
     (either (bytes_eq first (codes "replay")) _ _
     (others (λ request. requests.Replay request) (replay_request words) (λ value. tt))
     (either (bytes_eq first (codes "make")) _ _ (makes (option_and_then
-    (λ word. make_of word.0 word.1 word.2 word.3 word.4) (five words))) tt))))
+    (λ word. make_of word.0 word.1 word.2 word.3 word.4) (five words)))
+    (either (bytes_eq first (codes "report")) _ _
+    (others (λ request. requests.Report request) (report_request words) (λ value. tt)) tt)))))

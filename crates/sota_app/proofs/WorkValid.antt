@@ -14,7 +14,10 @@ use Rattle.sota_app.specs.Requests.{FileRequest}
 use Rattle.sota_app.specs.Words.{IsSized}
 use Rattle.sota_app.specs.Script.{script_lines}
 use Rattle.sota_app.specs.Outcome.{read_hists, is_dash, with_hists, network_of, script_of}
-use Rattle.sota_app.specs.Outcome.{table_of, Job, play, judge, replay, Work, work_of}
+use Rattle.sota_app.specs.Outcome.{names_of}
+use Rattle.sota_app.specs.Outcome.{table_of, any_table_of, Job, play, judge_any, replay}
+use Rattle.sota_app.specs.Outcome.{Work, work_of}
+use Rattle.sota_app.specs.declared.voice.Voice.TheVariants.{Plain}
 use Rattle.sota_app.specs.declared.input.Input.TheVariants as inputs
 use Rattle.sota_app.specs.declared.input.InputFault.{InputFault}
 use Rattle.sota_app.specs.declared.input.NoInput.{NoInput}
@@ -103,11 +106,17 @@ work_valid graphs texts weights makes (requests.Ask ask) sized files work e =
     (network_valid graphs texts weights ask.graph ask.hists files h.first h.first_is)
 work_valid graphs texts weights makes (requests.Run run) sized files work e =
     named_valid graphs texts weights run files (script_of run.file files)
-    (λ script. play (script_lines script)) work e
+    (λ script. play Plain (script_lines Plain script)) work e
 work_valid graphs texts weights makes (requests.Check check) sized files work e =
-    named_valid graphs texts weights check files (table_of check.file files) judge work e
+    named_valid graphs texts weights check files (any_table_of check.file files) judge_any work e
 work_valid graphs texts weights makes (requests.Replay words) sized files work e =
     named_valid graphs texts weights words.names files (table_of words.names.file files)
     (λ table. replay table words.trips) work e
+work_valid graphs texts weights makes (requests.Report words) sized files work e =
+    let h = followed (network_of words.graph words.hists files) _ work e in
+    let k = followed (names_of words.names files h.first) _ work h.next_is in
+    let m = followed (script_of words.script files) _ work k.next_is in
+    subst IsNet (net_is _ work m.next_is)
+    (network_valid graphs texts weights words.graph words.hists files h.first h.first_is)
 work_valid graphs texts weights makes (requests.Make make) sized files work e =
     subst IsNet (net_is _ work e) (makes make.seed make.nodes make.arcs make.span sized)

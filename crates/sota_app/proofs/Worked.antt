@@ -10,7 +10,7 @@ use Rattle.sota_session.specs.declared.ask.Ask.{Ask}
 use Rattle.sota_session.specs.declared.ask.AskFault.{AskFault}
 use Rattle.sota_app.specs.Script.{ScriptLine, step}
 use Rattle.sota_app.specs.Shown.{plan_result, unless_fault}
-use Rattle.sota_app.specs.Work.{IsSpent, line_effort, work, shown_pushes, pushes_unless}
+use Rattle.sota_app.specs.Work.{IsSpent, line_effort, work, pushes_unless}
 use Rattle.sota_app.specs.declared.showing.Plan.{Plan}
 use Rattle.sota_app.specs.declared.status.Status.{Status}
 use Rattle.sota_app.specs.declared.stop.Stop.{Stop}
@@ -26,14 +26,15 @@ line_worked net next line rest kept now all old new total spent is =
     ap (λ (net : Net). work net rest now) is ∙ ap (λ (kept : State). work (step net line).next rest kept) spent.kept_is in
     omega (arith, total, spent.pushes, left)
 
--- an ask, and then its policy, on the same network
+-- an ask, and then its policy on the same network, which pushes nothing more
 pub shown_count : (net now : Net) (ask : Ask) (kept after : State) (old mid new : ℕ)
     → mid ≡ old + pushes_for net ask kept → now ≡ net → after ≡ state_after net ask kept
-    → new ≡ mid + pushes_for now ask after → new ≡ old + shown_pushes net ask kept
-shown_count net now ask kept after old mid new first same left second =
+    → new ≡ mid + pushes_for now ask after → pushes_for net ask (state_after net ask kept) ≡ 0
+    → new ≡ old + pushes_for net ask kept
+shown_count net now ask kept after old mid new first same left second none =
     let more : pushes_for now ask after ≡ pushes_for net ask (state_after net ask kept) =
     ap (λ (net : Net). pushes_for net ask after) same ∙ ap (λ (kept : State). pushes_for net ask kept) left in
-    omega (arith, first, second, more)
+    omega (arith, first, second, more, none)
 
 refused_none : (found : Option AskFault) (plan : Plan) (fault : AskFault) (more : ℕ)
     → unless_fault found plan ≡ Err fault → pushes_unless found more ≡ 0
@@ -66,10 +67,11 @@ shown_all net ask plan (Ok status) old new more answers made =
     made ∙ ap (λ (n : ℕ). old + n) (sym (accepted_all (ask_fault net ask) _ plan more answers))
 
 -- the same of a session that was just opened
-pub shown_first : (net now : Net) (ask given : Ask) (kept first : State) (old new : ℕ)
-    → new ≡ old + shown_pushes now given kept → now ≡ net → given ≡ ask → kept ≡ first
-    → new ≡ old + shown_pushes net ask first
-shown_first net now ask given kept first old new count same is state =
-    count ∙ ap (λ (net : Net). old + shown_pushes net given kept) same
-    ∙ ap (λ (ask : Ask). old + shown_pushes net ask kept) is
-    ∙ ap (λ (kept : State). old + shown_pushes net ask kept) state
+pub shown_first : (net now : Net) (ask given : Ask) (kept first : State) (old new all : ℕ)
+    → new ≡ old + pushes_for now given kept → now ≡ net → given ≡ ask → kept ≡ first
+    → pushes_for net ask first ≡ all → new ≡ old + all
+shown_first net now ask given kept first old new all count same is state cells =
+    count ∙ ap (λ (net : Net). old + pushes_for net given kept) same
+    ∙ ap (λ (ask : Ask). old + pushes_for net ask kept) is
+    ∙ ap (λ (kept : State). old + pushes_for net ask kept) state
+    ∙ ap (λ (n : ℕ). old + n) cells

@@ -8,13 +8,17 @@ use Rattle.sota_edge.specs.Sink.{SinkState, Wrote}
 use Rattle.sota_dimacs.specs.Words as graphs
 use Rattle.sota_histcsv.specs.Words as hists
 use Rattle.sota_polfile.specs.Words as policies
+use Rattle.sota_report.specs.Names.{Place}
+use Rattle.sota_report.specs.Words as names
+use Rattle.sota_units.specs.Memory.{◌>>=◌}
 use Rattle.sota_app.specs.Outputs.{Made, Begun, StoreMissed}
 use Rattle.sota_app.specs.Outcome.{Outcome, outcome_of, refused_words}
-use Rattle.sota_app.specs.Outcome.{graph_of, network_of, is_dash}
-use Rattle.sota_app.specs.Requests.{FileRequest}
+use Rattle.sota_app.specs.Outcome.{graph_of, network_of, names_of, is_dash}
+use Rattle.sota_app.specs.Requests.{FileRequest, ReportRequest}
 use Rattle.sota_app.specs.InputFaults.{fault_place, fault_line}
 use Rattle.sota_app.specs.declared.input.InputFault.{InputFault}
 use Rattle.sota_app.specs.declared.input.InputFault.TheVariants.{TooLong, Graph, Hists, Policy}
+use Rattle.sota_app.specs.declared.input.InputFault.TheVariants.{Names}
 use Rattle.sota_app.specs.declared.input.NoInput.{NoInput}
 use Rattle.sota_app.specs.declared.words.Request.{Request}
 use Rattle.sota_app.specs.declared.words.Request.TheVariants as requests
@@ -55,12 +59,24 @@ UnreadLast names old new =
     UnreadNetwork names.graph names.hists old new
     ⊎ (Accepted (network_of names.graph names.hists) old × Unread names.file old new)
 
+-- the names of places on a network that is accepted
+abbrev pub places_for : ReportRequest → Files → Result (List Place) NoInput
+places_for words files = network_of words.graph words.hists files >>= names_of words.names files
+
+-- an input of a network, or the names of places, or the script after them
+abbrev pub UnreadReport : ReportRequest → DeskState → DeskState → Type 0
+UnreadReport words old new =
+    UnreadNetwork words.graph words.hists old new
+    ⊎ ((Accepted (network_of words.graph words.hists) old × Unread words.names old new)
+    ⊎ (Accepted (places_for words) old × Unread words.script old new))
+
 -- an input of the request
 abbrev pub UnreadInput : Request → DeskState → DeskState → Type 0
 UnreadInput (requests.Ask ask) old new = UnreadNetwork ask.graph ask.hists old new
 UnreadInput (requests.Run run) old new = UnreadLast run old new
 UnreadInput (requests.Check check) old new = UnreadLast check old new
 UnreadInput (requests.Replay words) old new = UnreadLast words.names old new
+UnreadInput (requests.Report words) old new = UnreadReport words old new
 UnreadInput (requests.Make make) old new = ⊥
 
 -- a fault of what stands in a text; want of memory is none
@@ -69,6 +85,7 @@ IsOfText (TooLong input) = ⊥
 IsOfText (Graph fault) = graphs.is_shortage fault ≡ false
 IsOfText (Hists fault) = hists.is_shortage fault ≡ false
 IsOfText (Policy fault) = policies.is_shortage fault ≡ false
+IsOfText (Names fault) = names.is_shortage fault ≡ false
 
 -- where an input is refused for its length, more than its limit was taken, which is the number in
 -- its line

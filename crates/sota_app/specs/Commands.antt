@@ -13,15 +13,17 @@ use Rattle.sota_quantile.specs.Needs.{ReachesWith}
 use Rattle.sota_quantile.specs.declared.need.Need.{Need}
 use Rattle.sota_app.specs.Words.{request_of}
 use Rattle.sota_app.specs.Outcome.{play, work_of}
-use Rattle.sota_app.specs.Replies.{reply_line, replies_text}
+use Rattle.sota_app.specs.Replies.{spell, replies_text}
 use Rattle.sota_app.specs.Script.{ScriptLine, command_on, session_ask, command_refusal, effect_of}
 use Rattle.sota_app.specs.Script.{network_after, replies_to}
+use Rattle.sota_app.specs.declared.voice.Voice.{Voice}
 use Rattle.sota_app.specs.declared.reply.Reply.{Reply}
 use Rattle.sota_app.specs.declared.reply.Reply.TheVariants as replies
 
 -- a command on the line of this number, between the lines above it and those below it, over the
--- network of the files
+-- network of the files, and the voice of the replies
 pub record CommandLine : Type 0 where
+  pub voice : Voice
   pub net : Net
   pub above : List ScriptLine
   pub number : ℕ
@@ -36,24 +38,24 @@ command_net line = network_after line.net line.above
 pub record IsDone (words : List (List ℕ)) (files : Files) (line : CommandLine) : Type 0 where
   pub lines : List ScriptLine
   pub request : IsSomeAnd (request_of words) (λ request.
-      work_of request files ≡ Ok (record { net = line.net; job = play lines }))
+      work_of request files ≡ Ok (record { net = line.net; job = play line.voice lines }))
   pub place : lines ≡ line.above ++ command_on line.number line.command ∷ line.below
   pub accepted : command_refusal (command_net line) line.command ≡ None
 
 -- between the replies to the lines above and those to the lines below, this reply was written
 abbrev pub Replied : CommandLine → Reply → SinkState → SinkState → Type 0
-Replied line reply old new = Wrote (replies_text (replies_to line.net line.above)
-    ++ (reply_line reply
-    ++ replies_text (replies_to (effect_of (command_net line) line.command).next line.below)))
+Replied line reply old new = Wrote (replies_text line.voice (replies_to line.net line.above)
+    ++ (spell line.voice reply ++ replies_text line.voice
+    (replies_to (effect_of (command_net line) line.command).next line.below)))
     old new
 
--- The line 'route D T LOWER UPPER K' was written. Its two bounds enclose the exact chance of
--- keeping to the route, they differ by at most a unit an arc, and no plan from where it begins is
--- worse off than the lower one.
-pub record Bracketed (line : CommandLine) (dest budget : ℕ) (arcs : List ℕ) (old new : SinkState)
+-- A line was written that spells 'route D T LOWER UPPER K'. Its two bounds enclose the exact chance
+-- of keeping to the route, they differ by at most a unit an arc, and the lower one is at most the
+-- upper bound of an ask from where it begins.
+pub record Routed (line : CommandLine) (dest budget : ℕ) (arcs : List ℕ) (old new : SinkState)
     : Type 0 where
   pub answer : RouteAnswer
-  pub written : Replied line (replies.Bracketed (record {
+  pub written : Replied line (replies.Routed (record {
     dest = dest;
     budget = budget;
     answer = answer;
@@ -62,7 +64,7 @@ pub record Bracketed (line : CommandLine) (dest budget : ℕ) (arcs : List ℕ) 
   pub meant : (o : ℕ) → start_of (command_net line) arcs ≡ Some o
       → IsBracket (command_net line) dest arcs o budget answer
 
--- The line 'need O D CONF TMAX EARLY SURE' was written. No decision tree arrives with the
+-- A line was written that spells 'need O D CONF TMAX EARLY SURE'. No decision tree arrives with the
 -- confidence within less time than EARLY, or within TMAX where it is none, and one does within
 -- SURE.
 pub record Allowed (line : CommandLine) (ask : Ask3) (confidence : ℕ) (old new : SinkState)

@@ -6,16 +6,19 @@ use Rattle.sota_edge.specs.Desk.{Files, DeskState}
 use Rattle.sota_edge.specs.Sink.{SinkState}
 use Rattle.sota_app.specs.Outputs.{LineEnds}
 use Rattle.sota_app.specs.InputFaults.{fault_line}
-use Rattle.sota_app.specs.Outcome.{Job, play, judge, replay, show, Work}
+use Rattle.sota_app.specs.Outcome.{Job, play, judge, judge_bracket, replay, show, Work}
 use Rattle.sota_network.specs.Network.{Net}
+use Rattle.sota_polfile.specs.Bracket.{IsBracket}
 use Rattle.sota_app.specs.Shown.{HoldsUnlessRefused}
 use Rattle.sota_app.specs.Script.{ScriptLine, ask_on, session_ask, script_lines}
 use Rattle.sota_app.specs.Causes.{Known, Took, IsOfText}
 use Rattle.sota_app.specs.declared.inputs.Script.{Script}
-use Rattle.sota_app.specs.declared.inputs.Script.TheVariants as scripts
+use Rattle.sota_app.specs.declared.inputs.Source.{Source}
+use Rattle.sota_app.specs.declared.inputs.Source.TheVariants as sources
 use Rattle.sota_app.specs.declared.inputs.Job.{Job as TaskJob}
 use Rattle.sota_app.specs.declared.inputs.Job.TheVariants as jobs
 use Rattle.sota_app.specs.declared.inputs.Task.{Task}
+use Rattle.sota_app.specs.declared.voice.Voice.{Voice}
 use Rattle.sota_app.specs.declared.input.NoInput.{NoInput}
 use Rattle.sota_app.specs.declared.input.NoInput.TheVariants as ends
 use Rattle.sota_app.specs.declared.status.Status.{Status}
@@ -24,13 +27,17 @@ use Rattle.sota_app.specs.declared.status.Status.TheVariants.{Words, Input, Read
 use Rattle.sota_app.specs.declared.stop.Stop.{Stop}
 
 -- the lines of a script
+abbrev pub source_lines : Voice → Source → List ScriptLine
+source_lines voice (sources.Ask ask) = ask_on 1 ask ∷ []
+source_lines voice (sources.Text text) = script_lines voice text.items
+
 abbrev pub lines_of : Script → List ScriptLine
-lines_of (scripts.Ask ask) = ask_on 1 ask ∷ []
-lines_of (scripts.Text script) = script_lines script.items
+lines_of script = source_lines script.voice script.source
 
 abbrev pub job_of : TaskJob → Job
-job_of (jobs.Play script) = play (lines_of script)
+job_of (jobs.Play script) = play script.voice (lines_of script)
 job_of (jobs.Judge table) = judge table
+job_of (jobs.JudgeBracket table) = judge_bracket table
 job_of (jobs.Replay table trips) = replay table trips
 job_of (jobs.Show ask) = show ask
 
@@ -38,13 +45,14 @@ abbrev pub task_work : Task → Work
 task_work task = record { net = task.network; job = job_of task.job }
 
 -- a script is within its limit
-abbrev pub IsShort : Script → Type 0
-IsShort (scripts.Ask ask) = Unit {0}
-IsShort (scripts.Text script) = length script.items ≤ TEXT_LIMIT
+abbrev pub IsShort : Source → Type 0
+IsShort (sources.Ask ask) = Unit {0}
+IsShort (sources.Text text) = length text.items ≤ TEXT_LIMIT
 
 abbrev pub IsShortJob : TaskJob → Type 0
-IsShortJob (jobs.Play script) = IsShort script
+IsShortJob (jobs.Play script) = IsShort script.source
 IsShortJob (jobs.Judge table) = Unit {0}
+IsShortJob (jobs.JudgeBracket table) = Unit {0}
 IsShortJob (jobs.Replay table trips) = Unit {0}
 IsShortJob (jobs.Show ask) = Unit {0}
 
@@ -96,9 +104,10 @@ IsWorked Done = Unit {0}
 IsWorked SomeRefused = Unit {0}
 IsWorked _ = ⊥
 
--- the policy of an ask that was planned holds
+-- the policy of an ask that was planned holds, and a bracket that was read is one
 abbrev pub JobHolds : Net → Job → Type 0
-JobHolds net (play lines) = Unit {0}
+JobHolds net (play voice lines) = Unit {0}
 JobHolds net (judge table) = Unit {0}
+JobHolds net (judge_bracket table) = IsBracket table
 JobHolds net (replay table trips) = Unit {0}
 JobHolds net (show ask) = HoldsUnlessRefused net (session_ask ask)

@@ -8,11 +8,15 @@ use Rattle.sota_session.specs.declared.ask.Ask.{Ask}
 use Rattle.sota_app.specs.Outputs.{all_stored}
 use Rattle.sota_app.specs.Script.{ScriptLine, session_ask}
 use Rattle.sota_app.specs.Meaning.{AskLine, IsAmong, IsAccepted}
+use Rattle.sota_app.specs.declared.voice.Voice.{Voice}
+use Rattle.sota_app.specs.declared.voice.Voice.TheVariants.{Plain}
 use Rattle.sota_app.specs.declared.reply.NamedFile.{NamedFile}
 
 -- this ask stands on one of the lines, and is accepted there
-pub record IsAskedIn (net : Net) (lines : List ScriptLine) (ask : Ask) : Type 0 where
+pub record IsAskedIn (voice : Voice) (net : Net) (lines : List ScriptLine) (ask : Ask)
+    : Type 0 where
   pub line : AskLine
+  pub voice_is : line.voice ≡ voice
   pub net_is : line.net ≡ net
   pub place : IsAmong line lines
   pub ask_is : session_ask line.ask ≡ ask
@@ -57,6 +61,7 @@ example_net = record {
 
 abbrev pub example_line : AskLine
 example_line = record {
+  voice = Plain;
   net = example_net;
   above = [];
   number = 1;

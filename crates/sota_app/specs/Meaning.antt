@@ -11,21 +11,26 @@ use Rattle.sota_script.specs.declared.command.Ask3.{Ask3}
 use Rattle.sota_session.specs.Asks.{ask_fault}
 use Rattle.sota_session.specs.Plans.{plan_table}
 use Rattle.sota_polfile.specs.Table.{Table}
+use Rattle.sota_polfile.specs.Bracket.{Bracket}
 use Rattle.sota_check.specs.Certified.{rule, IsCertified}
+use Rattle.sota_check.specs.Bracketed.{bracket_rule, IsBracketed}
 use Rattle.sota_replay.specs.Tally.{replayed, trip_count}
 use Rattle.sota_app.specs.declared.words.Trips.{Trips}
 use Rattle.sota_app.specs.Words.{request_of}
-use Rattle.sota_app.specs.Replies.{answer_line, replies_text}
+use Rattle.sota_app.specs.Replies.{answer_line, spell, replies_text}
 use Rattle.sota_app.specs.Script.{ScriptLine, ask_on, session_ask, network_after, replies_to}
-use Rattle.sota_app.specs.Verdicts.{named, accepted_line, trips_line}
+use Rattle.sota_app.specs.Verdicts.{named, accepted_line, bracket_named, enclosed_line, trips_line}
 use Rattle.sota_app.specs.Shown.{made_line}
+use Rattle.sota_app.specs.declared.voice.Voice.{Voice}
+use Rattle.sota_app.specs.declared.reply.Reply.TheVariants as replies
 use Rattle.sota_app.specs.declared.status.Status.{Status}
 use Rattle.sota_app.specs.declared.status.Status.TheVariants.{Done}
-use Rattle.sota_app.specs.Outcome.{Job, play, judge, replay, show, work_of}
+use Rattle.sota_app.specs.Outcome.{Job, play, judge, judge_bracket, replay, show, work_of}
 
 -- an ask on the line of this number, between the lines above it and those below it, over the
--- network of the files
+-- network of the files, and the voice of the replies
 pub record AskLine : Type 0 where
+  pub voice : Voice
   pub net : Net
   pub above : List ScriptLine
   pub number : ℕ
@@ -48,7 +53,7 @@ IsAccepted line = ask_fault (line_net line) (session_ask line.ask) ≡ None
 pub record IsAnswered (words : List (List ℕ)) (files : Files) (line : AskLine) : Type 0 where
   pub lines : List ScriptLine
   pub request : IsSomeAnd (request_of words) (λ request.
-      work_of request files ≡ Ok (record { net = line.net; job = play lines }))
+      work_of request files ≡ Ok (record { net = line.net; job = play line.voice lines }))
   pub place : IsAmong line lines
   pub accepted : IsAccepted line
 
@@ -70,15 +75,16 @@ pub record IsMeant (net : Net) (ask : Ask3) (lower upper : ℕ) (next : Option �
   pub attains : lower * net.scale ^ ask.budget
       ≤ ONE * score net ask.dest ask.origin ask.budget (policy net ask)
 
--- between the replies to the lines above and those to the lines below, a line
--- 'answer O D T LOWER UPPER ARC' was written that is meant so
+-- between the replies to the lines above and those to the lines below, a line was written that
+-- spells 'answer O D T LOWER UPPER ARC' and is meant so
 pub record Meant (line : AskLine) (old new : SinkState) : Type 0 where
   pub lower : ℕ
   pub upper : ℕ
   pub next : Option ℕ
-  pub written : Wrote (replies_text (replies_to line.net line.above)
-      ++ (answer_line (session_ask line.ask) (record { lower = lower; upper = upper; next = next })
-      ++ replies_text (replies_to (line_net line) line.below))) old new
+  pub written : Wrote (replies_text line.voice (replies_to line.net line.above)
+      ++ (spell line.voice (replies.Answered (session_ask line.ask)
+      (record { lower = lower; upper = upper; next = next }))
+      ++ replies_text line.voice (replies_to (line_net line) line.below))) old new
   pub meant : IsMeant (line_net line) line.ask lower upper next
 
 -- ---- a policy that is accepted
@@ -107,6 +113,32 @@ pub record Attested (net : Net) (table : Table) (old new : SinkState) : Type 0 w
   pub attains : (named table).lower * net.scale ^ table.head.budget
       ≤ ONE * score net table.head.dest table.head.origin table.head.budget (journey net table)
   pub whole : (named table).lower ≤ ONE
+
+-- ---- a bracket that is accepted
+
+-- the words are a request to judge this bracket on this network
+abbrev pub IsBracketJudged : List (List ℕ) → Files → Net → Bracket → Type 0
+IsBracketJudged words files net table = IsJob words files net (judge_bracket table)
+
+-- the tree of a traveller who takes the arcs of a bracket from its origin with its whole budget
+abbrev pub bracket_journey : Net → Bracket → Tree
+bracket_journey net table =
+    follow net (bracket_rule table) table.head.dest table.head.origin table.head.budget
+
+-- The line 'enclosed O D T LOWER UPPER' was written, with the ask of the bracket and the two bounds
+-- that it names, in units of ten to the minus eighteenth. Each entry of the bracket holds. The
+-- bounds enclose the greatest on-time probability of all decision trees, and who follows the arcs
+-- of the bracket attains the lower one.
+pub record Enclosed (net : Net) (table : Bracket) (old new : SinkState) : Type 0 where
+  pub written : Wrote (enclosed_line (bracket_named table)) old new
+  pub holds : IsBracketed net table
+  pub encloses : Encloses net table.head.dest table.head.origin table.head.budget
+      (bracket_named table).lower (bracket_named table).upper
+  pub fits : Fits net table.head.origin (bracket_journey net table)
+  pub attains : (bracket_named table).lower * net.scale ^ table.head.budget
+      ≤ ONE * score net table.head.dest table.head.origin table.head.budget
+      (bracket_journey net table)
+  pub whole : (bracket_named table).upper ≤ ONE
 
 -- ---- trips that follow a policy
 

@@ -12,8 +12,14 @@ use Rattle.sota_histcsv.specs.Certain.{certain_net}
 use Rattle.sota_histcsv.specs.Histograms.{hist_net}
 use Rattle.sota_network.specs.Network.{Net}
 use Rattle.sota_polfile.specs.Table.{Table}
+use Rattle.sota_polfile.specs.Bracket.{Bracket}
+use Rattle.sota_polfile.specs.BracketFile.{any_of}
+use Rattle.sota_polfile.specs.declared.any.AnyTable.{AnyTable}
+use Rattle.sota_polfile.specs.declared.any.AnyTable.TheVariants.{One, Two}
 use Rattle.sota_polfile.specs.Faults.{policy_of}
 use Rattle.sota_check.specs.Rejected.{rejection}
+use Rattle.sota_check.specs.BracketRejected.{bracket_rejection}
+use Rattle.sota_report.specs.Names.{Place, places_of}
 use Rattle.sota_app.specs.Words.{request_of}
 use Rattle.sota_app.specs.Outputs.{Output, only_line}
 use Rattle.sota_app.specs.Replies.{answer_line, refused_line, outputs_of, replies_status}
@@ -23,7 +29,7 @@ use Rattle.sota_app.specs.declared.reply.Refusal.TheVariants as refusals
 use Rattle.sota_script.specs.declared.command.Ask3.{Ask3}
 use Rattle.sota_session.specs.declared.ask.Ask.{Ask}
 use Rattle.sota_session.specs.declared.ask.AskFault.{AskFault}
-use Rattle.sota_app.specs.Verdicts.{verdict_line, replay_line, verdict_status}
+use Rattle.sota_app.specs.Verdicts.{verdict_line, bracket_verdict_line, replay_line, verdict_status}
 use Rattle.sota_app.specs.Script.{ScriptLine, ask_on, session_ask, script_lines, replies_to}
 use Rattle.sota_app.specs.InputFaults.{input_limit, fault_line}
 use Rattle.sota_app.specs.declared.reply.Reply.{Reply}
@@ -33,6 +39,8 @@ use Rattle.sota_app.specs.declared.input.InputFault.{InputFault}
 use Rattle.sota_app.specs.declared.input.InputFault.TheVariants as faults
 use Rattle.sota_app.specs.declared.input.NoInput.{NoInput}
 use Rattle.sota_app.specs.declared.input.NoInput.TheVariants as ends
+use Rattle.sota_app.specs.declared.voice.Voice.{Voice}
+use Rattle.sota_app.specs.declared.voice.Voice.TheVariants as voices
 use Rattle.sota_app.specs.declared.words.Trips.{Trips}
 use Rattle.sota_app.specs.declared.words.Request.{Request}
 use Rattle.sota_app.specs.declared.words.Request.TheVariants as requests
@@ -83,19 +91,36 @@ network_of graph hists files = graph_of graph files >>= with_hists hists files
 abbrev pub script_of : List ℕ → Files → Result (List ℕ) NoInput
 script_of name files = input_bytes inputs.Script (files name)
 
+-- of either version
+abbrev pub read_any_table : List ℕ → Result AnyTable NoInput
+read_any_table bytes = or_input_fault (λ fault. faults.Policy fault) (any_of bytes)
+
+abbrev pub any_table_of : List ℕ → Files → Result AnyTable NoInput
+any_table_of name files = input_bytes inputs.Policy (files name) >>= read_any_table
+
+-- of version 1
 abbrev pub read_table : List ℕ → Result Table NoInput
 read_table bytes = or_input_fault (λ fault. faults.Policy fault) (policy_of bytes)
 
 abbrev pub table_of : List ℕ → Files → Result Table NoInput
 table_of name files = input_bytes inputs.Policy (files name) >>= read_table
 
+-- the names of places for a network
+abbrev pub read_names : Net → List ℕ → Result (List Place) NoInput
+read_names net bytes = or_input_fault (λ fault. faults.Names fault) (places_of net.nodes bytes)
+
+abbrev pub names_of : List ℕ → Files → Net → Result (List Place) NoInput
+names_of name files net = input_bytes inputs.Names (files name) >>= read_names net
+
 -- ---- requests
 
--- what is to be done on a network: lines are to be played, or a policy is to be judged, or trips
--- are to follow it besides, or an ask is to be planned and its policy judged
+-- what is to be done on a network: lines are to be played in a voice, or a policy of one of the two
+-- versions is to be judged, or trips are to follow one of version 1 besides, or an ask is to be
+-- planned and its policy judged
 pub data Job : Type 0 where
-  play : List ScriptLine → Job
+  play : Voice → List ScriptLine → Job
   judge : Table → Job
+  judge_bracket : Bracket → Job
   replay : Table → Trips → Job
   show : Ask3 → Job
 
@@ -103,23 +128,36 @@ pub record Work : Type 0 where
   pub net : Net
   pub job : Job
 
+-- a policy of either version is to be judged
+abbrev pub judge_any : AnyTable → Job
+judge_any (One table) = judge table
+judge_any (Two table) = judge_bracket table
+
 -- the request 'ask' is a script of that one line
 abbrev pub work_of : Request → Files → Result Work NoInput
 work_of (requests.Ask ask) files = do
   net ← network_of ask.graph ask.hists files
-  Ok (record { net = net; job = play (ask_on 1 ask.ask ∷ []) })
+  Ok (record { net = net; job = play voices.Plain (ask_on 1 ask.ask ∷ []) })
 work_of (requests.Run run) files = do
   net ← network_of run.graph run.hists files
   script ← script_of run.file files
-  Ok (record { net = net; job = play (script_lines script) })
+  Ok (record { net = net; job = play voices.Plain (script_lines voices.Plain script) })
 work_of (requests.Check check) files = do
   net ← network_of check.graph check.hists files
-  table ← table_of check.file files
-  Ok (record { net = net; job = judge table })
+  table ← any_table_of check.file files
+  Ok (record { net = net; job = judge_any table })
 work_of (requests.Replay words) files = do
   net ← network_of words.names.graph words.names.hists files
   table ← table_of words.names.file files
   Ok (record { net = net; job = replay table words.trips })
+work_of (requests.Report words) files = do
+  net ← network_of words.graph words.hists files
+  places ← names_of words.names files net
+  script ← script_of words.script files
+  Ok (record {
+    net = net;
+    job = play (voices.Json places) (script_lines (voices.Json places) script);
+  })
 work_of (requests.Make make) files =
     Ok (record { net = net_made make; job = show (ask_made make) })
 
@@ -130,14 +168,22 @@ pub record Outcome : Type 0 where
   pub status : Status
 
 -- these replies
-abbrev pub replied : List Reply → Outcome
-replied replies = record { outputs = outputs_of replies; status = replies_status replies }
+abbrev pub replied : Voice → List Reply → Outcome
+replied voice replies =
+    record { outputs = outputs_of voice replies; status = replies_status replies }
 
 -- the verdict on a policy
 abbrev pub judged : Net → Table → Outcome
 judged net table = record {
   outputs = only_line (verdict_line table (rejection net table));
   status = verdict_status (rejection net table);
+}
+
+-- the verdict on a bracket
+abbrev pub bracket_judged : Net → Bracket → Outcome
+bracket_judged net table = record {
+  outputs = only_line (bracket_verdict_line table (bracket_rejection net table));
+  status = verdict_status (bracket_rejection net table);
 }
 
 -- the tally of trips, where the policy is not rejected
@@ -165,8 +211,9 @@ abbrev pub shown : Net → Ask → Outcome
 shown net ask = plan_outcome net ask (plan_result net ask)
 
 abbrev pub job_outcome : Net → Job → Outcome
-job_outcome net (play lines) = replied (replies_to net lines)
+job_outcome net (play voice lines) = replied voice (replies_to net lines)
 job_outcome net (judge table) = judged net table
+job_outcome net (judge_bracket table) = bracket_judged net table
 job_outcome net (replay table trips) = replayed net table trips
 job_outcome net (show ask) = shown net (session_ask ask)
 

@@ -13,14 +13,20 @@ use Rattle.sota_session.specs.Words.{ask_word, ask_count, edit_word}
 use Rattle.sota_session.specs.declared.edit.EditFault.TheVariants as edits
 use Rattle.sota_quantile.specs.Faults as needs
 use Rattle.sota_route.specs.Faults as routes
+use Rattle.sota_report.specs.Objects.{reply_text}
+use Rattle.sota_report.specs.Words as names
+use Rattle.sota_report.specs.declared.reply.Reply as reports
+use Rattle.sota_report.specs.declared.reply.Reply.TheVariants as fields
 use Rattle.sota_app.specs.Outputs.{Output}
 use Rattle.sota_app.specs.declared.reply.Allowance.{Allowance}
-use Rattle.sota_app.specs.declared.reply.Bracket.{Bracket}
 use Rattle.sota_app.specs.declared.reply.NamedFile.{NamedFile}
+use Rattle.sota_app.specs.declared.reply.RouteReply.{RouteReply}
 use Rattle.sota_app.specs.declared.reply.Reply.{Reply}
 use Rattle.sota_app.specs.declared.reply.Reply.TheVariants as replies
 use Rattle.sota_app.specs.declared.reply.Refusal.{Refusal}
 use Rattle.sota_app.specs.declared.reply.Refusal.TheVariants as refusals
+use Rattle.sota_app.specs.declared.voice.Voice.{Voice}
+use Rattle.sota_app.specs.declared.voice.Voice.TheVariants as voices
 use Rattle.sota_app.specs.declared.status.Status.{Status}
 use Rattle.sota_app.specs.declared.status.Status.TheVariants.{Done, SomeRefused}
 
@@ -35,6 +41,7 @@ is_shortage (refusals.Edit fault) = false
 is_shortage (refusals.Ask fault) = asks.is_shortage fault
 is_shortage (refusals.Route fault) = routes.is_shortage fault
 is_shortage (refusals.Need fault) = needs.is_shortage fault
+is_shortage (refusals.Name fault) = names.is_unresolved_shortage fault
 
 abbrev pub refusal_word : Refusal → List ℕ
 refusal_word (refusals.Line fault) = lines.fault_word fault
@@ -43,6 +50,7 @@ refusal_word (refusals.Edit fault) = edit_word fault
 refusal_word (refusals.Ask fault) = ask_word fault
 refusal_word (refusals.Route fault) = routes.route_word fault
 refusal_word (refusals.Need fault) = needs.need_word fault
+refusal_word (refusals.Name fault) = names.unresolved_word fault
 
 -- the count that exceeds a limit of size, or the place in a route
 abbrev pub refusal_count : Refusal → Option ℕ
@@ -77,11 +85,11 @@ abbrev pub stored_line : List ℕ → List ℕ
 stored_line name = codes "stored " ++ name ++ codes "\n"
 
 -- 'route D T LOWER UPPER K'
-abbrev pub bracket_line : Bracket → List ℕ
-bracket_line bracket =
-    codes "route " ++ decimal bracket.dest ++ codes " " ++ decimal bracket.budget ++ codes " "
-    ++ grain_spelling bracket.answer.lower ++ codes " " ++ grain_spelling bracket.answer.upper
-    ++ codes " " ++ decimal bracket.arcs ++ codes "\n"
+abbrev pub route_line : RouteReply → List ℕ
+route_line route =
+    codes "route " ++ decimal route.dest ++ codes " " ++ decimal route.budget ++ codes " "
+    ++ grain_spelling route.answer.lower ++ codes " " ++ grain_spelling route.answer.upper
+    ++ codes " " ++ decimal route.arcs ++ codes "\n"
 
 -- 'need O D CONF TMAX EARLY SURE'
 abbrev pub allowance_line : Allowance → List ℕ
@@ -106,7 +114,7 @@ reply_line (replies.Answered ask answer) = answer_line ask answer
 reply_line (replies.Edited arc) = edited_line arc
 reply_line (replies.Closed arc) = closed_line arc
 reply_line (replies.Stored file) = stored_line file.name
-reply_line (replies.Bracketed bracket) = bracket_line bracket
+reply_line (replies.Routed route) = route_line route
 reply_line (replies.Allowed allowance) = allowance_line allowance
 reply_line (replies.Refused line refusal) = refused_line line refusal
 
@@ -115,8 +123,28 @@ abbrev pub reply_file : Reply → Option NamedFile
 reply_file (replies.Stored file) = Some file
 reply_file _ = None
 
-abbrev pub reply_output : Reply → Output
-reply_output reply = record { file = reply_file reply; line = reply_line reply }
+-- a reply as its numbers and texts
+abbrev pub report_of : Reply → reports.Reply
+report_of (replies.Answered ask answer) = fields.Answer ask.origin ask.dest ask.budget
+    answer.lower answer.upper answer.next
+report_of (replies.Edited arc) = fields.Edited arc
+report_of (replies.Closed arc) = fields.Closed arc
+report_of (replies.Stored file) = fields.Stored file.name
+report_of (replies.Routed route) = fields.Route route.dest route.budget route.answer.lower
+    route.answer.upper route.arcs
+report_of (replies.Allowed allowance) = fields.Need allowance.ask.origin allowance.ask.dest
+    allowance.confidence allowance.ask.budget allowance.need.early allowance.need.sure
+report_of (replies.Refused line refusal) =
+    fields.Refused line (refusal_word refusal) (refusal_count refusal)
+
+-- the line of a reply, as it is spelled in a voice: as it stands, or as a JSON object that has the
+-- first names of its nodes beside them
+abbrev pub spell : Voice → Reply → List ℕ
+spell voices.Plain reply = reply_line reply
+spell (voices.Json places) reply = reply_text places (report_of reply) ++ codes "\n"
+
+abbrev pub reply_output : Voice → Reply → Output
+reply_output voice reply = record { file = reply_file reply; line = spell voice reply }
 
 -- a reply that begins with 'refused'
 abbrev pub is_refusal : Reply → Bool
@@ -126,11 +154,11 @@ is_refusal _ = false
 -- ---- several replies
 
 -- their lines one after the other
-abbrev pub replies_text : List Reply → List ℕ
-replies_text replies = flat_map reply_line replies
+abbrev pub replies_text : Voice → List Reply → List ℕ
+replies_text voice replies = flat_map (spell voice) replies
 
-abbrev pub outputs_of : List Reply → List Output
-outputs_of replies = map reply_output replies
+abbrev pub outputs_of : Voice → List Reply → List Output
+outputs_of voice replies = map (reply_output voice) replies
 
 abbrev pub some_refused : List Reply → Bool
 some_refused replies = list_any is_refusal replies

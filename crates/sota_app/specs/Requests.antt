@@ -8,6 +8,13 @@ pub record AskRequest : Type 0 where
   pub hists : List ℕ
   pub ask : Ask3
 
+-- 'GRAPH HISTS NAMES SCRIPT' after 'report': the four names
+pub record ReportRequest : Type 0 where
+  pub graph : List ℕ
+  pub hists : List ℕ
+  pub names : List ℕ
+  pub script : List ℕ
+
 -- 'GRAPH HISTS FILE': the three names
 pub record FileRequest : Type 0 where
   pub graph : List ℕ

@@ -15,34 +15,54 @@ use Rattle.sota_script.specs.declared.command.Ask3.{Ask3}
 use Rattle.sota_script.specs.declared.command.Command.{Command}
 use Rattle.sota_script.specs.declared.command.Command.TheVariants as commands
 use Rattle.sota_script.specs.declared.fault.LineFault.{LineFault}
+use Rattle.sota_polfile.specs.BracketFile.{bracket_spelling}
 use Rattle.sota_polfile.specs.Spelling.{spelling}
 use Rattle.sota_session.specs.Asks.{ask_fault, answer_of}
+use Rattle.sota_session.specs.Brackets.{plan_bracket}
 use Rattle.sota_session.specs.Plans.{plan_table}
 use Rattle.sota_route.specs.Bounds.{route_answer}
 use Rattle.sota_route.specs.Faults.{route_fault}
+use Rattle.sota_report.specs.Resolved.{resolved}
+use Rattle.sota_report.specs.declared.fault.ResolveFault.TheVariants as unresolved
+use Rattle.sota_units.specs.Memory.{◌>>=◌, or_fault}
 use Rattle.sota_session.specs.declared.ask.Ask.{Ask}
 use Rattle.sota_session.specs.declared.edit.EditFault.TheVariants as edits
 use Rattle.sota_app.specs.declared.reply.Allowance.{Allowance}
-use Rattle.sota_app.specs.declared.reply.Bracket.{Bracket}
 use Rattle.sota_app.specs.declared.reply.NamedFile.{NamedFile}
+use Rattle.sota_app.specs.declared.reply.RouteReply.{RouteReply}
 use Rattle.sota_app.specs.declared.reply.Reply.{Reply}
 use Rattle.sota_app.specs.declared.reply.Reply.TheVariants as replies
 use Rattle.sota_app.specs.declared.reply.Refusal.{Refusal}
 use Rattle.sota_app.specs.declared.reply.Refusal.TheVariants as refusals
+use Rattle.sota_app.specs.declared.voice.Voice.{Voice}
+use Rattle.sota_app.specs.declared.voice.Voice.TheVariants as voices
 
 -- ---- lines
 
--- a line's number, and what it is parsed as: a command, none, or a fault
+-- a line's number, and what it is parsed as: a command, none, or why it is refused
 pub record ScriptLine : Type 0 where
   pub number : ℕ
-  pub parsed : Result (Option Command) LineFault
+  pub parsed : Result (Option Command) Refusal
 
-abbrev pub script_line : ℕ × List ℕ → ScriptLine
-script_line line = record { number = line.0; parsed = parse_line line.1 }
+-- a line is refused for its fault
+abbrev pub or_line_fault : {A : Type 0} → Result A LineFault → Result A Refusal
+or_line_fault (Ok x) = Ok x
+or_line_fault (Err fault) = Err (refusals.Line fault)
+
+-- what a line is parsed as, as it is read in a voice: as it stands, or with numbers in the place of
+-- the names of nodes, which come before all else
+abbrev pub parse_in : Voice → List ℕ → Result (Option Command) Refusal
+parse_in voices.Plain line = or_line_fault (parse_line line)
+parse_in (voices.Json places) line = do
+  line ← or_fault (refusals.Name unresolved.Place) (resolved places line)
+  or_line_fault (parse_line line)
+
+abbrev pub script_line : Voice → ℕ × List ℕ → ScriptLine
+script_line voice line = record { number = line.0; parsed = parse_in voice line.1 }
 
 -- the lines of a script, counted from 1, blank ones too
-abbrev pub script_lines : List ℕ → List ScriptLine
-script_lines script = map script_line (numbered_lines script)
+abbrev pub script_lines : Voice → List ℕ → List ScriptLine
+script_lines voice script = map (script_line voice) (numbered_lines script)
 
 -- a command on the line of this number
 abbrev pub command_on : ℕ → Command → ScriptLine
@@ -72,6 +92,7 @@ command_refusal net (commands.Edit arc pairs) =
 command_refusal net (commands.Close arc) = arc_refusal net arc
 command_refusal net (commands.Ask ask) = ask_refusal net ask
 command_refusal net (commands.Policy ask name) = ask_refusal net ask
+command_refusal net (commands.Bracket ask name) = ask_refusal net ask
 command_refusal net (commands.Route dest budget arcs) =
     option_map (λ fault. refusals.Route fault) (route_fault net dest budget arcs)
 command_refusal net (commands.Need ask confidence) =
@@ -82,9 +103,14 @@ abbrev pub policy_file : Net → Ask3 → List ℕ → NamedFile
 policy_file net ask name =
     record { name = name; bytes = spelling (plan_table net (session_ask ask)) }
 
+-- the bracket of an ask under a name
+abbrev pub bracket_file : Net → Ask3 → List ℕ → NamedFile
+bracket_file net ask name =
+    record { name = name; bytes = bracket_spelling (plan_bracket net (session_ask ask)) }
+
 -- the two bounds of a route, with what they are of
-abbrev pub bracket_of : Net → ℕ → ℕ → List ℕ → Bracket
-bracket_of net dest budget arcs = record {
+abbrev pub route_of : Net → ℕ → ℕ → List ℕ → RouteReply
+route_of net dest budget arcs = record {
   dest = dest;
   budget = budget;
   answer = route_answer net dest arcs budget;
@@ -121,8 +147,12 @@ effect_of net (commands.Policy ask name) = record {
   reply = replies.Stored (policy_file net ask name);
   next = net;
 }
+effect_of net (commands.Bracket ask name) = record {
+  reply = replies.Stored (bracket_file net ask name);
+  next = net;
+}
 effect_of net (commands.Route dest budget arcs) =
-    record { reply = replies.Bracketed (bracket_of net dest budget arcs); next = net }
+    record { reply = replies.Routed (route_of net dest budget arcs); next = net }
 effect_of net (commands.Need ask confidence) =
     record { reply = replies.Allowed (allowance_of net ask confidence); next = net }
 
@@ -148,10 +178,10 @@ result_step net number (Err refusal) =
     record { reply = Some (replies.Refused number refusal); next = net }
 
 -- blank lines and comments have no reply
-abbrev pub parsed_step : Net → ℕ → Result (Option Command) LineFault → Step
+abbrev pub parsed_step : Net → ℕ → Result (Option Command) Refusal → Step
 parsed_step net number (Ok None) = record { reply = None; next = net }
 parsed_step net number (Ok (Some command)) = result_step net number (command_result net command)
-parsed_step net number (Err fault) = result_step net number (Err (refusals.Line fault))
+parsed_step net number (Err refusal) = result_step net number (Err refusal)
 
 -- a line looks at the lines above it only through the network
 abbrev pub step : Net → ScriptLine → Step

@@ -3,10 +3,10 @@ use Rattle.std.specs.Prelude.{ℕ, List, [], ◌∷◌, Option, Some, None, opti
 use Rattle.std.specs.Prelude.{◌≡◌, true, nat_le, if◌then◌else◌, codes}
 use Rattle.std.specs.Str.{bytes_eq}
 use Rattle.sota_text.specs.Text.{number_of}
-use Rattle.sota_text.specs.Words.{three}
+use Rattle.sota_text.specs.Words.{three, four}
 use Rattle.sota_make.specs.Made.{is_size}
 use Rattle.sota_script.specs.declared.command.Ask3.{Ask3}
-use Rattle.sota_app.specs.Requests.{AskRequest, FileRequest}
+use Rattle.sota_app.specs.Requests.{AskRequest, FileRequest, ReportRequest}
 use Rattle.sota_app.specs.declared.words.ReplayWords.{ReplayWords}
 use Rattle.sota_app.specs.declared.words.Trips.{Trips}
 use Rattle.sota_app.specs.declared.words.MakeWords.{MakeWords}
@@ -36,6 +36,16 @@ ask_request words =
 abbrev pub file_request : List (List ℕ) → Option FileRequest
 file_request words =
     option_map (λ word. record { graph = word.0; hists = word.1; file = word.2 }) (three words)
+
+-- 'GRAPH HISTS NAMES SCRIPT' after 'report'
+abbrev pub report_request : List (List ℕ) → Option ReportRequest
+report_request words =
+    option_map (λ word. record {
+      graph = word.0;
+      hists = word.1;
+      names = word.2;
+      script = word.3;
+    }) (four words)
 
 -- the most trips of a request
 abbrev pub TRIP_LIMIT : ℕ
@@ -90,7 +100,9 @@ request_of (first ∷ words) =
     option_map (λ request. requests.Replay request) (replay_request words)
     else (if bytes_eq first (codes "make") then
     option_map (λ request. requests.Make request) (make_request words)
-    else None))))
+    else (if bytes_eq first (codes "report") then
+    option_map (λ request. requests.Report request) (report_request words)
+    else None)))))
 
 -- a network is made of the numbers of the request, where it has those
 abbrev pub IsSized : Request → Type 0

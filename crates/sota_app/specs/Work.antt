@@ -7,12 +7,11 @@ use Rattle.sota_kept.specs.States.{State, first_state}
 use Rattle.sota_script.specs.declared.command.Ask3.{Ask3}
 use Rattle.sota_script.specs.declared.command.Command.{Command}
 use Rattle.sota_script.specs.declared.command.Command.TheVariants as commands
-use Rattle.sota_script.specs.declared.fault.LineFault.{LineFault}
 use Rattle.sota_session.specs.Asks.{ask_fault}
 use Rattle.sota_session.specs.State.{state_after, pushes_for, state_edited}
 use Rattle.sota_session.specs.declared.ask.Ask.{Ask}
 use Rattle.sota_session.specs.declared.ask.AskFault.{AskFault}
-use Rattle.sota_app.specs.Outcome.{Job, play, judge, replay, show}
+use Rattle.sota_app.specs.Outcome.{Job, play, judge, judge_bracket, replay, show}
 use Rattle.sota_app.specs.Script.{ScriptLine, session_ask, command_refusal, step}
 use Rattle.sota_app.specs.declared.reply.Refusal.{Refusal}
 
@@ -31,10 +30,14 @@ ask_effort net ask kept = record {
   kept = state_after net (session_ask ask) kept;
 }
 
+-- three pushes for each entry of the region of an ask
+abbrev pub region_pushes : Net → Ask → ℕ
+region_pushes net ask = 3 * table_cells net ask.origin ask.dest ask.budget
+
 -- a need is planned on tables of its own, which are filled with the region of its ask
 abbrev pub need_effort : Net → Ask3 → State → Effort
 need_effort net ask kept =
-    record { pushes = 3 * table_cells net ask.origin ask.dest ask.budget; kept = kept }
+    record { pushes = region_pushes net (session_ask ask); kept = kept }
 
 -- another time of an arc cuts what it can affect
 abbrev pub edit_effort : Net → ℕ → List (ℕ × ℕ) → State → Effort
@@ -46,6 +49,7 @@ command_effort net (commands.Edit arc pairs) kept = edit_effort net arc (time_of
 command_effort net (commands.Close arc) kept = edit_effort net arc [] kept
 command_effort net (commands.Ask ask) kept = ask_effort net ask kept
 command_effort net (commands.Policy ask name) kept = ask_effort net ask kept
+command_effort net (commands.Bracket ask name) kept = ask_effort net ask kept
 command_effort net (commands.Route dest budget arcs) kept = no_effort kept
 command_effort net (commands.Need ask confidence) kept = need_effort net ask kept
 
@@ -58,10 +62,10 @@ abbrev pub result_effort : Net → Command → State → Effort
 result_effort net command kept =
     unless_refused_effort (command_refusal net command) kept (command_effort net command kept)
 
-abbrev pub parsed_effort : Net → Result (Option Command) LineFault → State → Effort
+abbrev pub parsed_effort : Net → Result (Option Command) Refusal → State → Effort
 parsed_effort net (Ok None) kept = no_effort kept
 parsed_effort net (Ok (Some command)) kept = result_effort net command kept
-parsed_effort net (Err fault) kept = no_effort kept
+parsed_effort net (Err refusal) kept = no_effort kept
 
 abbrev pub line_effort : Net → ScriptLine → State → Effort
 line_effort net line kept = parsed_effort net line.parsed kept
@@ -73,23 +77,19 @@ work net (line ∷ lines) kept =
     (line_effort net line kept).pushes
     + work (step net line).next lines (line_effort net line kept).kept
 
--- the pushes of an ask that is answered and then has its policy made
-abbrev pub shown_pushes : Net → Ask → State → ℕ
-shown_pushes net ask kept =
-    pushes_for net ask kept + pushes_for net ask (state_after net ask kept)
-
 abbrev pub pushes_unless : Option AskFault → ℕ → ℕ
 pushes_unless None pushes = pushes
 pushes_unless (Some fault) pushes = 0
 
--- the pushes of a job: at first nothing is kept
+-- the pushes of a job: at first nothing is kept. The plan that is shown is pushed once, for its
+-- answer and its policy
 abbrev pub job_work : Net → Job → ℕ
-job_work net (play lines) = work net lines (first_state net.nodes)
+job_work net (play voice lines) = work net lines (first_state net.nodes)
 job_work net (judge table) = 0
+job_work net (judge_bracket table) = 0
 job_work net (replay table trips) = 0
 job_work net (show ask) =
-    pushes_unless (ask_fault net (session_ask ask))
-    (shown_pushes net (session_ask ask) (first_state net.nodes))
+    pushes_unless (ask_fault net (session_ask ask)) (region_pushes net (session_ask ask))
 
 -- so much was done between two counts of pushes
 pub record IsSpent (effort : Effort) (old new : ℕ) (kept : State) : Type 0 where

@@ -1,18 +1,23 @@
 // The verdict on a policy, and trips that follow it.
 ghost use Rattle.std.specs.Prelude.{◌≡◌, ◌++◌, IfOk, OnOk};
+ghost use Rattle.sota_polfile.specs.Bracket.{IsBracket};
+ghost use Rattle.sota_check.specs.BracketRejected.{bracket_rejection};
 ghost use Rattle.sota_check.specs.Rejected.{rejection};
 ghost use Rattle.sota_app.specs.Outputs.{LineEnds};
 ghost use Rattle.sota_app.specs.Verdicts.{accepted_line, rejected_line, entry_text};
+ghost use Rattle.sota_app.specs.Verdicts.{enclosed_line, bracket_rejected_line};
+ghost use Rattle.sota_app.specs.Verdicts.{bracket_verdict_line};
 ghost use Rattle.sota_app.specs.Verdicts.{trips_line, verdict_line, replay_line, verdict_status};
 
 use crate::output::write_line;
+use crate::reply::push_count;
 use crate::status::Status;
 use crate::stop::Stop;
 use crate::words::Trips;
-use sota_check::{Certified, Rejection, check};
+use sota_check::{BracketRejection, Bracketed, Certified, Rejection, check, check_bracket};
 use sota_edge::Sink;
 use sota_network::Network;
-use sota_polfile::PolicyTable;
+use sota_polfile::{BracketTable, PolicyTable};
 use sota_replay::{Tally, Words, trips};
 use sota_text::TextOut;
 use sota_units::{NoMemory, grain_text};
@@ -37,6 +42,34 @@ pub fn check_policy<O: Sink>(
             Ok(Status::Done)
         }
         Err(cause) => reject(alloc, cause, out),
+    }
+}
+
+/// Judges a bracket on a network, and writes the verdict.
+pub fn judge_bracket<O: Sink>(
+    alloc: Global,
+    network: &Network,
+    table: &BracketTable,
+    out: &mut O,
+) -> Result<Status, Stop>
+    ensures line { LineEnds result
+        (bracket_verdict_line table.now (bracket_rejection network.now table.now))
+        (O.state out.old) (O.state out.new) }
+    ensures status { IfOk result (λ status.
+        status ≡ verdict_status (bracket_rejection network.now table.now)) }
+    ensures valid { IsBracket table.now }
+{
+    // A check knows what holds of every bracket once this one is read.
+    prove!(table.head().nodes >= 1);
+    match check_bracket(network, table) {
+        Ok(bracketed) => {
+            write_line(&enclosed_text(alloc, &bracketed)?, out)?;
+            Ok(Status::Done)
+        }
+        Err(cause) => {
+            write_line(&bracket_rejected_text(alloc, cause)?, out)?;
+            Ok(Status::SomeRefused)
+        }
     }
 }
 
@@ -88,6 +121,38 @@ fn accepted_text(alloc: Global, certified: &Certified) -> Result<TextOut, NoMemo
     text.number(u128::from(certified.budget))?;
     text.bytes(b" ")?;
     text.bytes(&grain_text(certified.lower))?;
+    text.bytes(b"\n")?;
+    Ok(text)
+}
+
+/// The line `enclosed O D T LOWER UPPER`.
+fn enclosed_text(alloc: Global, bracketed: &Bracketed) -> Result<TextOut, NoMemory>
+    ensures { IfOk result (λ text. text ≡ enclosed_line bracketed.now) }
+{
+    let mut text = TextOut::new(alloc);
+    text.bytes(b"enclosed ")?;
+    text.number(u128::from(bracketed.origin.get()))?;
+    text.bytes(b" ")?;
+    text.number(u128::from(bracketed.dest.get()))?;
+    text.bytes(b" ")?;
+    text.number(u128::from(bracketed.budget))?;
+    text.bytes(b" ")?;
+    text.bytes(&grain_text(bracketed.lower))?;
+    text.bytes(b" ")?;
+    text.bytes(&grain_text(bracketed.upper))?;
+    text.bytes(b"\n")?;
+    Ok(text)
+}
+
+/// The line `rejected CAUSE`, with the node and the budget where the cause has them.
+fn bracket_rejected_text(alloc: Global, cause: BracketRejection) -> Result<TextOut, NoMemory>
+    ensures { IfOk result (λ text. text ≡ bracket_rejected_line cause) }
+{
+    let mut text = TextOut::new(alloc);
+    text.bytes(b"rejected ")?;
+    text.bytes(cause.word())?;
+    push_count(&mut text, cause.node().map(u64::from))?;
+    push_count(&mut text, cause.budget().map(u64::from))?;
     text.bytes(b"\n")?;
     Ok(text)
 }

@@ -6,6 +6,7 @@ ghost use Rattle.sota_app.specs.InputFaults.{fault_input, fault_word, fault_plac
 use sota_dimacs::GraphFault;
 use sota_histcsv::HistFileFault;
 use sota_polfile::{POLICY_LIMIT, PolicyFault};
+use sota_report::NamesFault;
 use sota_text::TextOut;
 use sota_units::{NoMemory, TEXT_LIMIT};
 use std::alloc::Global;
@@ -17,6 +18,7 @@ pub enum Input {
     Hists,
     Script,
     Policy,
+    Names,
 }
 
 impl Input {
@@ -29,6 +31,7 @@ impl Input {
             Input::Hists => b"hists",
             Input::Script => b"script",
             Input::Policy => b"policy",
+            Input::Names => b"names",
         }
     }
 
@@ -37,7 +40,7 @@ impl Input {
         ensures { result ≡ input_limit self }
     {
         match self {
-            Input::Graph | Input::Hists | Input::Script => TEXT_LIMIT,
+            Input::Graph | Input::Hists | Input::Script | Input::Names => TEXT_LIMIT,
             Input::Policy => POLICY_LIMIT,
         }
     }
@@ -54,6 +57,8 @@ pub enum InputFault {
     Hists(HistFileFault),
     /// The policy file has this fault.
     Policy(PolicyFault),
+    /// The file of place names has this fault.
+    Names(NamesFault),
 }
 
 /// Why there is no input.
@@ -77,6 +82,7 @@ impl InputFault {
             InputFault::Graph(_) => Input::Graph,
             InputFault::Hists(_) => Input::Hists,
             InputFault::Policy(_) => Input::Policy,
+            InputFault::Names(_) => Input::Names,
         }
     }
 
@@ -89,6 +95,7 @@ impl InputFault {
             InputFault::Graph(fault) => fault.word(),
             InputFault::Hists(fault) => fault.word(),
             InputFault::Policy(fault) => fault.word(),
+            InputFault::Names(fault) => fault.word(),
         }
     }
 
@@ -101,6 +108,7 @@ impl InputFault {
             InputFault::Graph(fault) => u64::from(fault.place()),
             InputFault::Hists(fault) => u64::from(fault.place()),
             InputFault::Policy(fault) => fault.place(),
+            InputFault::Names(fault) => u64::from(fault.place()),
         }
     }
 

@@ -7,20 +7,26 @@ ghost use Rattle.sota_polfile.specs.Limits.{POLICY_LIMIT};
 ghost use Rattle.sota_app.specs.InputFaults.{input_limit};
 ghost use Rattle.sota_app.specs.Outcome.{input_bytes, read_graph, graph_of};
 ghost use Rattle.sota_app.specs.Outcome.{certain_hists, read_hists, with_hists, network_of};
-ghost use Rattle.sota_app.specs.Outcome.{read_table, table_of, work_of};
-ghost use Rattle.sota_app.specs.Causes.{Unread, UnreadHists, UnreadNetwork, UnreadInput};
+ghost use Rattle.sota_app.specs.Outcome.{read_table, table_of, read_any_table, any_table_of};
+ghost use Rattle.sota_app.specs.Outcome.{judge_any, read_names, names_of, work_of};
+ghost use Rattle.sota_app.specs.Causes.{Unread, UnreadHists, UnreadNetwork, UnreadReport};
+ghost use Rattle.sota_app.specs.Causes.{UnreadInput};
+ghost use Rattle.sota_app.specs.declared.words.Request.TheVariants.{Report};
 ghost use Rattle.sota_app.specs.Words.{IsSized};
 ghost use Rattle.sota_app.specs.Shown.{net_made};
-ghost use Rattle.sota_app.specs.Inputs.{TextAnswers, InputAnswers, task_work, IsShortJob};
+ghost use Rattle.sota_app.specs.Inputs.{TextAnswers, InputAnswers, task_work, job_of, IsShortJob};
+ghost use Rattle.sota_app.specs.declared.voice.Voice.TheVariants.{Plain};
 
 use crate::input::{Input, InputFault, NoInput};
-use crate::words::{MakeWords, Request, Trips};
+use crate::voice::Voice;
+use crate::words::{MakeWords, ReportWords, Request, Trips};
 use sota_dimacs::{GraphFault, RawGraph, read_graph};
 use sota_edge::{Desk, LoadError};
 use sota_histcsv::{HistFileFault, certain_network, read_histograms};
 use sota_make::{MakeFault, make_network};
 use sota_network::Network;
-use sota_polfile::{PolicyFault, PolicyTable, read_policy};
+use sota_polfile::{AnyTable, BracketTable, PolicyFault, PolicyTable, read_any, read_policy};
+use sota_report::{Names, NamesFault};
 use sota_script::Ask3;
 use std::alloc::Global;
 
@@ -38,15 +44,24 @@ pub enum Job {
     Play(Script),
     /// A policy is to be judged.
     Judge(PolicyTable),
+    /// A bracket is to be judged.
+    JudgeBracket(BracketTable),
     /// Trips are to follow a policy.
     Replay(PolicyTable, Trips),
     /// An ask is to be planned, and its policy judged.
     Show(Ask3),
 }
 
-/// Lines that are to be played.
+/// Lines that are to be played, and how their replies are spelled.
 #[derive(Drop)]
-pub enum Script {
+pub struct Script {
+    pub voice: Voice,
+    pub source: Source,
+}
+
+/// Where lines stand that are to be played.
+#[derive(Drop)]
+pub enum Source {
     /// One line with this ask.
     Ask(Ask3),
     /// The lines of this text.
@@ -154,7 +169,39 @@ fn load_network<D: Desk>(
     load_hists(alloc, hists, roads, desk)
 }
 
-/// The policy of the bytes of a file.
+/// The table of the bytes of a file of either version.
+fn parse_any(alloc: Global, bytes: &[u8]) -> Result<AnyTable, NoInput>
+    requires { length bytes.now ≤ POLICY_LIMIT }
+    ensures { TextAnswers result (read_any_table bytes.now) }
+{
+    match read_any(alloc, bytes) {
+        Ok(table) => Ok(table),
+        Err(PolicyFault::NoMemory) => Err(NoInput::NoMemory),
+        Err(fault) => Err(NoInput::Fault(InputFault::Policy(fault))),
+    }
+}
+
+/// The table of either version that the file of this name holds.
+fn load_any<D: Desk>(alloc: Global, name: &str, desk: &mut D) -> Result<AnyTable, NoInput>
+    ensures { InputAnswers (λ table. table) result (any_table_of name.now) (Unread name.now)
+        (D.state desk.old) (D.state desk.new) }
+{
+    let bytes = load_input(alloc, Input::Policy, name, desk)?;
+    parse_any(alloc, &bytes)
+}
+
+/// A table of either version is to be judged.
+fn judge(table: AnyTable) -> Job
+    ensures job { job_of result ≡ judge_any table }
+    ensures short { IsShortJob result }
+{
+    match table {
+        AnyTable::One(table) => Job::Judge(table),
+        AnyTable::Two(table) => Job::JudgeBracket(table),
+    }
+}
+
+/// The policy of the bytes of a file of version 1.
 fn parse_policy(alloc: Global, bytes: &[u8]) -> Result<PolicyTable, NoInput>
     requires { length bytes.now ≤ POLICY_LIMIT }
     ensures { TextAnswers result (read_table bytes.now) }
@@ -166,7 +213,7 @@ fn parse_policy(alloc: Global, bytes: &[u8]) -> Result<PolicyTable, NoInput>
     }
 }
 
-/// The policy that the file of this name holds.
+/// The policy of version 1 that the file of this name holds.
 fn load_policy<D: Desk>(alloc: Global, name: &str, desk: &mut D) -> Result<PolicyTable, NoInput>
     ensures { InputAnswers (λ table. table) result (table_of name.now) (Unread name.now)
         (D.state desk.old) (D.state desk.new) }
@@ -193,6 +240,62 @@ fn make(alloc: Global, words: &MakeWords) -> Result<Network, NoInput>
     }
 }
 
+/// The names of the bytes of a file, for a network with so many nodes.
+fn parse_names(alloc: Global, bytes: &[u8], network: &Network) -> Result<Names, NoInput>
+    requires { length bytes.now ≤ TEXT_LIMIT }
+    ensures { TextAnswers result (read_names network.now bytes.now) }
+{
+    match Names::read(alloc, bytes, network.nodes()) {
+        Ok(names) => Ok(names),
+        Err(NamesFault::NoMemory) => Err(NoInput::NoMemory),
+        Err(fault) => Err(NoInput::Fault(InputFault::Names(fault))),
+    }
+}
+
+/// The names of places that the file of this name holds, for a network.
+fn load_names<D: Desk>(
+    alloc: Global,
+    name: &str,
+    network: &Network,
+    desk: &mut D,
+) -> Result<Names, NoInput>
+    ensures { InputAnswers (λ names. names) result (λ files. names_of name.now files network.now)
+        (Unread name.now) (D.state desk.old) (D.state desk.new) }
+{
+    let bytes = load_input(alloc, Input::Names, name, desk)?;
+    parse_names(alloc, &bytes, network)
+}
+
+/// The network, and the lines of the script with names of places, that are to be played.
+fn load_report<D: Desk>(
+    alloc: Global,
+    words: &ReportWords<'_>,
+    desk: &mut D,
+) -> Result<Task, NoInput>
+    ensures read { InputAnswers task_work result (work_of (Report words.now))
+        (UnreadReport words.now) (D.state desk.old) (D.state desk.new) }
+    ensures short { IfOk result (λ task. IsShortJob task.job) }
+{
+    let network = load_network(alloc, words.graph, words.hists, desk)?;
+    let names = load_names(alloc, words.names, &network, desk)?;
+    let text = load_input(alloc, Input::Script, words.script, desk)?;
+    let job = Job::Play(Script {
+        voice: Voice::Json(names),
+        source: Source::Text(text),
+    });
+    Ok(Task { network, job })
+}
+
+/// The lines of a source, with plain replies.
+fn plain(source: Source) -> Script
+    ensures { result ≡ record { voice = Plain; source = source } }
+{
+    Script {
+        voice: Voice::Plain,
+        source,
+    }
+}
+
 /// The network of the files that a request names, or that is made of its numbers, and what is to be
 /// done on it.
 pub fn load_task<D: Desk>(
@@ -208,18 +311,18 @@ pub fn load_task<D: Desk>(
     match request {
         Request::Ask(words) => {
             let network = load_network(alloc, words.graph, words.hists, desk)?;
-            let job = Job::Play(Script::Ask(words.ask));
+            let job = Job::Play(plain(Source::Ask(words.ask)));
             Ok(Task { network, job })
         }
         Request::Run(words) => {
             let network = load_network(alloc, words.graph, words.hists, desk)?;
             let text = load_input(alloc, Input::Script, words.file, desk)?;
-            let job = Job::Play(Script::Text(text));
+            let job = Job::Play(plain(Source::Text(text)));
             Ok(Task { network, job })
         }
         Request::Check(words) => {
             let network = load_network(alloc, words.graph, words.hists, desk)?;
-            let job = Job::Judge(load_policy(alloc, words.file, desk)?);
+            let job = judge(load_any(alloc, words.file, desk)?);
             Ok(Task { network, job })
         }
         Request::Replay(words) => {
@@ -228,6 +331,7 @@ pub fn load_task<D: Desk>(
             let job = Job::Replay(load_policy(alloc, names.file, desk)?, words.trips);
             Ok(Task { network, job })
         }
+        Request::Report(words) => load_report(alloc, words, desk),
         Request::Make(words) => {
             let network = make(alloc, words)?;
             let job = Job::Show(words.ask());

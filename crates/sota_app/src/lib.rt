@@ -12,6 +12,7 @@ mod showing;
 mod status;
 mod stop;
 mod top;
+mod voice;
 mod words;
 
 pub use status::Status;

@@ -16,20 +16,21 @@ ghost use Rattle.sota_session.specs.State.{kept_state};
 ghost use Rattle.sota_app.specs.Inputs.{lines_of, IsShort};
 ghost use Rattle.sota_app.specs.Work.{IsSpent, command_effort, no_effort, result_effort};
 ghost use Rattle.sota_app.specs.Work.{line_effort, work};
-ghost use Rattle.sota_app.specs.declared.reply.Reply.TheVariants.{Refused};
+ghost use Rattle.sota_app.specs.declared.reply.Reply.TheVariants.{Refused, Stored};
 
-use crate::inputs::Script;
+use crate::inputs::{Script, Source};
 use crate::output::make_reply;
-use crate::reply::{Allowance, Bracket, NamedFile, Refusal, Reply};
+use crate::reply::{Allowance, NamedFile, Refusal, Reply, RouteReply};
 use crate::status::Status;
 use crate::stop::Stop;
+use crate::voice::Voice;
 use sota_edge::{Desk, Sink};
 use sota_hist::Histogram;
 use sota_network::Network;
-use sota_polfile::write_policy;
+use sota_polfile::{write_bracket, write_policy};
 use sota_quantile::least_budgets;
 use sota_route::route_bracket;
-use sota_script::{Ask3, Command, read_line};
+use sota_script::{Ask3, Command, FileName};
 use sota_session::{Ask, AskFault, Session};
 use sota_text::Lines;
 use sota_units::{ArcId, Grain, Items, Mass, NoMemory, NodeId, Steps, Tick};
@@ -68,6 +69,16 @@ pub fn refuse(number: u32, refusal: Refusal) -> Result<Reply, NoMemory>
     } else {
         Ok(Reply::Refused(number, refusal))
     }
+}
+
+/// The reply to a line that stores these bytes under a name.
+fn store(name: FileName, bytes: Vec<u8>) -> Reply
+    ensures { result ≡ Stored (record { name = name; bytes = bytes.items }) }
+{
+    Reply::Stored(NamedFile {
+        name,
+        bytes: Items::new(bytes),
+    })
 }
 
 /// The status of lines that were all replied to.
@@ -126,15 +137,15 @@ impl<D: Desk, O: Sink, M: Ledger, P: Ledger> Player<'_, '_, '_, '_, '_, D, O, M,
         Ok(Reply::Closed(arc))
     }
 
-    /// Brackets the chance of a route.
-    fn bracket(&self, dest: NodeId, budget: u32, arcs: &[ArcId]) -> Result<Reply, Refusal>
+    /// Encloses the chance of a route.
+    fn route(&self, dest: NodeId, budget: u32, arcs: &[ArcId]) -> Result<Reply, Refusal>
         ensures { AnswersBy is_shortage
             (λ reply. record { reply = reply; next = self.now.session.now.network })
             result (command_result self.now.session.now.network (Route dest budget arcs.now)) }
     {
         let network = self.session.network();
         let answer = route_bracket(self.alloc, network, dest, budget, arcs)?;
-        Ok(Reply::Bracketed(Bracket {
+        Ok(Reply::Routed(RouteReply {
             dest,
             budget,
             answer,
@@ -208,13 +219,17 @@ impl<D: Desk, O: Sink, M: Ledger, P: Ledger> Player<'_, '_, '_, '_, '_, D, O, M,
                     .session
                     .policy(session_ask(ask), self.products, self.pushes)?;
                 let bytes = write_policy(self.alloc, &table).map_err(AskFault::from)?;
-                Ok(Reply::Stored(NamedFile {
-                    name,
-                    bytes: Items::new(bytes),
-                }))
+                Ok(store(name, bytes))
+            }
+            Command::Bracket { ask, name } => {
+                let table = self
+                    .session
+                    .bracket(session_ask(ask), self.products, self.pushes)?;
+                let bytes = write_bracket(self.alloc, &table).map_err(AskFault::from)?;
+                Ok(store(name, bytes))
             }
             Command::Route { dest, budget, arcs } => {
-                self.bracket(NodeId(dest), budget, arcs.as_slice())
+                self.route(NodeId(dest), budget, arcs.as_slice())
             }
             Command::Need { ask, confidence } => self.allow(session_ask(ask), confidence),
         }
@@ -242,32 +257,38 @@ impl<D: Desk, O: Sink, M: Ledger, P: Ledger> Player<'_, '_, '_, '_, '_, D, O, M,
     }
 
     /// Does what the line of this number asks for. A blank line or a comment has no reply.
-    fn reply_to_line(&mut self, number: u32, line: &[u8]) -> Result<Option<Reply>, NoMemory>
-        requires { length line.now < 2 ^ 32 }
+    fn reply_to_line(
+        &mut self,
+        voice: &Voice,
+        number: u32,
+        line: &[u8],
+    ) -> Result<Option<Reply>, NoMemory>
+        requires { length line.now ≤ TEXT_LIMIT }
         ensures reply { IfOk result (λ reply.
             record { reply = reply; next = self.new.session.now.network }
-            ≡ step self.old.session.now.network (script_line (number, line.now))) }
+            ≡ step self.old.session.now.network (script_line voice.now (number, line.now))) }
         ensures effort { OnOk result (IsSpent
-            (line_effort self.old.session.now.network (script_line (number, line.now))
+            (line_effort self.old.session.now.network (script_line voice.now (number, line.now))
             (kept_state self.old.session.now))
             self.old.pushes.now self.new.pushes.now (kept_state self.new.session.now)) }
         ensures desk { self.new.desk ≡ self.old.desk }
         ensures sink { self.new.out ≡ self.old.out }
         ensures pushes { self.new.pushes.ghost_name ≡ self.old.pushes.ghost_name }
     {
-        match read_line(self.alloc, line) {
+        match voice.read(self.alloc, line) {
             Ok(None) => Ok(None),
             Ok(Some(command)) => Ok(Some(self.reply_to(number, command)?)),
-            Err(fault) => Ok(Some(refuse(number, Refusal::Line(fault))?)),
+            Err(refusal) => Ok(Some(refuse(number, refusal)?)),
         }
     }
 
     /// Plays lines. The status is that of all replies. It keeps nothing of the lines above but the
     /// network.
     fn play(&mut self, script: &Script) -> Result<Status, Stop>
-        requires { IsShort script.now }
+        requires { IsShort script.now.source }
         ensures made { Ends result
-            (outputs_of (replies_to self.old.session.now.network (lines_of script.now)))
+            (outputs_of script.now.voice
+            (replies_to self.old.session.now.network (lines_of script.now)))
             (D.state self.old.desk.now) (D.state self.new.desk.now)
             (O.state self.old.out.now) (O.state self.new.out.now) }
         ensures status { IfOk result (λ status. status
@@ -279,19 +300,20 @@ impl<D: Desk, O: Sink, M: Ledger, P: Ledger> Player<'_, '_, '_, '_, '_, D, O, M,
         ensures sink { self.new.out.ghost_name ≡ self.old.out.ghost_name }
         ensures pushes { self.new.pushes.ghost_name ≡ self.old.pushes.ghost_name }
     {
-        match script {
-            Script::Ask(ask) => {
+        let voice = &script.voice;
+        match &script.source {
+            Source::Ask(ask) => {
                 let reply = self.reply_to(1, Command::Ask(*ask))?;
-                let refused = make_reply(self.alloc, Some(reply), self.desk, self.out)?;
+                let refused = make_reply(self.alloc, voice, Some(reply), self.desk, self.out)?;
                 Ok(lines_status(refused))
             }
-            Script::Text(text) => {
+            Source::Text(text) => {
                 let bytes = text.as_slice();
                 let mut refused = false;
                 for line in Lines::new(bytes) {
                     let line_bytes = &bytes[line.span.from..line.span.to];
-                    let reply = self.reply_to_line(line.number, line_bytes)?;
-                    refused |= make_reply(self.alloc, reply, self.desk, self.out)?;
+                    let reply = self.reply_to_line(voice, line.number, line_bytes)?;
+                    refused |= make_reply(self.alloc, voice, reply, self.desk, self.out)?;
                 }
                 Ok(lines_status(refused))
             }
@@ -312,11 +334,12 @@ pub fn play_lines<D: Desk, O: Sink, M: Ledger, P: Ledger>(
     blank: Blank,
     pushes: &mut Steps<P>,
 ) -> Result<Status, Stop>
-    requires short { IsShort script.now }
+    requires short { IsShort script.now.source }
     requires name { blank.name ≡ M.name }
     requires parts { blank.parts ≡ M.parts }
     requires some { 0 < blank.parts }
-    ensures made { Ends result (outputs_of (replies_to network (lines_of script.now)))
+    ensures made { Ends result
+        (outputs_of script.now.voice (replies_to network (lines_of script.now)))
         (D.state desk.old) (D.state desk.new) (O.state out.old) (O.state out.new) }
     ensures status { IfOk result (λ status. status
         ≡ replies_status (replies_to network (lines_of script.now))) }

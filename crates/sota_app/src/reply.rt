@@ -2,12 +2,14 @@
 ghost use Rattle.std.specs.Prelude.{◌≡◌, ◌++◌, IfOk, OnOk, option_map};
 ghost use Rattle.sota_app.specs.Replies.{is_shortage, refusal_word, refusal_count};
 ghost use Rattle.sota_app.specs.Replies.{number_text, count_text, answer_line, edited_line};
-ghost use Rattle.sota_app.specs.Replies.{closed_line, stored_line, bracket_line, refused_line};
+ghost use Rattle.sota_app.specs.Replies.{closed_line, stored_line, route_line, refused_line};
 ghost use Rattle.sota_app.specs.Replies.{allowance_line};
-ghost use Rattle.sota_app.specs.Replies.{reply_line, reply_file, is_refusal};
+ghost use Rattle.sota_app.specs.Replies.{reply_line, report_of, reply_file, is_refusal};
+ghost use Rattle.sota_app.specs.declared.reply.Reply.TheVariants.{Answered, Routed, Allowed};
 
 use sota_hist::HistFault;
 use sota_quantile::{Need, NeedFault};
+use sota_report::{Reply as Report, ResolveFault, Text};
 use sota_route::{RouteAnswer, RouteFault};
 use sota_script::{FileName, LineFault};
 use sota_session::{Answer, Ask, AskFault, EditFault};
@@ -24,7 +26,7 @@ pub struct NamedFile {
 
 /// Two bounds of the chance of a route to a destination within a budget, and its number of arcs.
 #[derive(Clone, Copy, Debug, PartialEq, Eq)]
-pub struct Bracket {
+pub struct RouteReply {
     pub dest: NodeId,
     pub budget: u32,
     pub answer: RouteAnswer,
@@ -50,8 +52,8 @@ pub enum Reply {
     Closed(ArcId),
     /// This file was stored.
     Stored(NamedFile),
-    /// The chance of a route was bracketed.
-    Bracketed(Bracket),
+    /// The chance of a route was enclosed.
+    Routed(RouteReply),
     /// The least budgets for a confidence were found.
     Allowed(Allowance),
     /// The line of this number was refused.
@@ -73,6 +75,8 @@ pub enum Refusal {
     Route(RouteFault),
     /// The need has this fault.
     Need(NeedFault),
+    /// A name of a place is not there.
+    Name(ResolveFault),
 }
 
 impl From<LineFault> for Refusal {
@@ -135,6 +139,16 @@ impl From<NeedFault> for Refusal {
     }
 }
 
+impl From<ResolveFault> for Refusal {
+    ghost use Rattle.sota_app.specs.declared.reply.Refusal.TheVariants.{Name as OfName};
+
+    ghost from_gives = { λ fault refusal. refusal ≡ OfName fault };
+
+    fn from(fault: ResolveFault) -> Self {
+        Refusal::Name(fault)
+    }
+}
+
 impl Refusal {
     /// Whether memory was wanted. Such a line is not refused: it gets no reply.
     pub fn is_shortage(&self) -> bool
@@ -148,6 +162,7 @@ impl Refusal {
                 | Refusal::Ask(AskFault::NoMemory)
                 | Refusal::Route(RouteFault::NoMemory)
                 | Refusal::Need(NeedFault::NoMemory)
+                | Refusal::Name(ResolveFault::NoMemory)
         )
     }
 
@@ -162,7 +177,15 @@ impl Refusal {
             Refusal::Ask(fault) => fault.word(),
             Refusal::Route(fault) => fault.word(),
             Refusal::Need(fault) => fault.word(),
+            Refusal::Name(fault) => fault.word(),
         }
+    }
+
+    /// Its name as a text.
+    fn cause(&self, alloc: Global) -> Result<Text, NoMemory>
+        ensures { IfOk result (λ text. text ≡ refusal_word self.now) }
+    {
+        Text::of_word(alloc, self.word())
     }
 
     /// The count or the place that is written with it, where it is one of those that have one.
@@ -173,7 +196,7 @@ impl Refusal {
             Refusal::Ask(fault) => fault.count(),
             Refusal::Route(fault) => fault.number(),
             Refusal::Need(fault) => fault.count(),
-            Refusal::Line(_) | Refusal::Time(_) | Refusal::Edit(_) => None,
+            Refusal::Line(_) | Refusal::Time(_) | Refusal::Edit(_) | Refusal::Name(_) => None,
         }
     }
 }
@@ -189,7 +212,7 @@ fn push_number(text: &mut TextOut, number: Option<u32>) -> Result<(), NoMemory>
 }
 
 /// Appends a count after a space, where there is one.
-fn push_count(text: &mut TextOut, count: Option<u64>) -> Result<(), NoMemory>
+pub fn push_count(text: &mut TextOut, count: Option<u64>) -> Result<(), NoMemory>
     ensures { OnOk result (text.new ≡ text.old ++ count_text count) }
 {
     if let Some(count) = count {
@@ -254,20 +277,20 @@ fn write_stored(alloc: Global, name: &str) -> Result<TextOut, NoMemory>
 }
 
 /// The line `route D T LOWER UPPER K`.
-fn write_bracket(alloc: Global, bracket: &Bracket) -> Result<TextOut, NoMemory>
-    ensures { IfOk result (λ text. text ≡ bracket_line bracket.now) }
+fn write_route(alloc: Global, route: &RouteReply) -> Result<TextOut, NoMemory>
+    ensures { IfOk result (λ text. text ≡ route_line route.now) }
 {
     let mut text = TextOut::new(alloc);
     text.bytes(b"route ")?;
-    text.number(u128::from(bracket.dest.get()))?;
+    text.number(u128::from(route.dest.get()))?;
     text.bytes(b" ")?;
-    text.number(u128::from(bracket.budget))?;
+    text.number(u128::from(route.budget))?;
     text.bytes(b" ")?;
-    text.bytes(&grain_text(bracket.answer.lower))?;
+    text.bytes(&grain_text(route.answer.lower))?;
     text.bytes(b" ")?;
-    text.bytes(&grain_text(bracket.answer.upper))?;
+    text.bytes(&grain_text(route.answer.upper))?;
     text.bytes(b" ")?;
-    text.number(u128::from(bracket.arcs))?;
+    text.number(u128::from(route.arcs))?;
     text.bytes(b"\n")?;
     Ok(text)
 }
@@ -307,6 +330,47 @@ fn write_refused(alloc: Global, line: u32, refusal: &Refusal) -> Result<TextOut,
     Ok(text)
 }
 
+/// An answer, as its numbers.
+fn report_answer(ask: &Ask, answer: &Answer) -> Report
+    ensures { result ≡ report_of (Answered ask.now answer.now) }
+{
+    Report::Answer {
+        origin: ask.origin.get(),
+        dest: ask.dest.get(),
+        budget: ask.budget,
+        lower: answer.lower,
+        upper: answer.upper,
+        arc: answer.next.map(ArcId::get),
+    }
+}
+
+/// The bounds of a route, as its numbers.
+fn report_route(route: &RouteReply) -> Report
+    ensures { result ≡ report_of (Routed route.now) }
+{
+    Report::Route {
+        dest: route.dest.get(),
+        budget: route.budget,
+        lower: route.answer.lower,
+        upper: route.answer.upper,
+        arcs: route.arcs,
+    }
+}
+
+/// The time that one must allow, as its numbers.
+fn report_allowance(allowance: &Allowance) -> Report
+    ensures { result ≡ report_of (Allowed allowance.now) }
+{
+    Report::Need {
+        origin: allowance.ask.origin.get(),
+        dest: allowance.ask.dest.get(),
+        confidence: allowance.confidence,
+        most: allowance.ask.budget,
+        early: allowance.need.early,
+        sure: allowance.need.sure,
+    }
+}
+
 impl Reply {
     /// Its line.
     pub fn line(&self, alloc: Global) -> Result<TextOut, NoMemory>
@@ -317,9 +381,28 @@ impl Reply {
             Reply::Edited(arc) => write_edited(alloc, *arc),
             Reply::Closed(arc) => write_closed(alloc, *arc),
             Reply::Stored(file) => write_stored(alloc, file.name.as_str()),
-            Reply::Bracketed(bracket) => write_bracket(alloc, bracket),
+            Reply::Routed(route) => write_route(alloc, route),
             Reply::Allowed(allowance) => write_allowance(alloc, allowance),
             Reply::Refused(line, refusal) => write_refused(alloc, *line, refusal),
+        }
+    }
+
+    /// Its numbers and texts.
+    pub fn report(&self, alloc: Global) -> Result<Report, NoMemory>
+        ensures { IfOk result (λ report. report ≡ report_of self.now) }
+    {
+        match self {
+            Reply::Answered(ask, answer) => Ok(report_answer(ask, answer)),
+            Reply::Edited(arc) => Ok(Report::Edited(arc.get())),
+            Reply::Closed(arc) => Ok(Report::Closed(arc.get())),
+            Reply::Stored(file) => Ok(Report::Stored(Text::copied(alloc, file.name.as_str())?)),
+            Reply::Routed(route) => Ok(report_route(route)),
+            Reply::Allowed(allowance) => Ok(report_allowance(allowance)),
+            Reply::Refused(line, refusal) => Ok(Report::Refused {
+                line: *line,
+                cause: refusal.cause(alloc)?,
+                count: refusal.count(),
+            }),
         }
     }
 
@@ -330,7 +413,7 @@ impl Reply {
         match self {
             Reply::Stored(file) => Some(file),
             Reply::Answered(_, _) | Reply::Edited(_) | Reply::Closed(_) => None,
-            Reply::Bracketed(_) | Reply::Allowed(_) | Reply::Refused(_, _) => None,
+            Reply::Routed(_) | Reply::Allowed(_) | Reply::Refused(_, _) => None,
         }
     }
 

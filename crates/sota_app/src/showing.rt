@@ -2,19 +2,19 @@
 ghost use Rattle.std.specs.Prelude.{◌≡◌, ◌+◌, ◌≤◌, ◌<◌, true, Ok, Err, IfOk, IfErr, OnOk};
 ghost use Rattle.sota_units.specs.Memory.{Answers, Unless};
 ghost use Rattle.sota_edge.specs.Desk.{DeskState};
+ghost use Rattle.sota_network.specs.Network.{IsNet};
 ghost use Rattle.sota_bounds.specs.Faults.{TABLE_LIMIT};
 ghost use Rattle.sota_polfile.specs.Table.{cells};
 ghost use Rattle.sota_polfile.specs.Spelling.{file_len};
-ghost use Rattle.sota_kept.specs.States.{first_state};
 ghost use Rattle.sota_session.specs.Answers as asks;
 ghost use Rattle.sota_session.specs.Asks.{ask_fault};
-ghost use Rattle.sota_session.specs.State.{kept_state};
+ghost use Rattle.sota_session.specs.State.{kept_state, pushes_for};
 ghost use Rattle.sota_app.specs.Outputs.{Ends, LineEnds};
 ghost use Rattle.sota_app.specs.Replies.{refused_line};
 ghost use Rattle.sota_app.specs.Script.{session_ask};
 ghost use Rattle.sota_app.specs.Shown.{made_line, plan_result, HoldsUnlessRefused};
 ghost use Rattle.sota_app.specs.Outcome.{shown};
-ghost use Rattle.sota_app.specs.Work.{shown_pushes, pushes_unless};
+ghost use Rattle.sota_app.specs.Work.{region_pushes, pushes_unless};
 ghost use Rattle.sota_app.specs.declared.reply.Refusal.TheVariants as refusals;
 
 use crate::checking::check_policy;
@@ -27,6 +27,7 @@ use sota_edge::Sink;
 use sota_network::Network;
 use sota_polfile::{PolicyTable, read_policy, write_policy};
 use sota_script::Ask3;
+use sota_session::laws::{accepted_asks_fit, asks_push_their_cells};
 use sota_session::{Answer, Ask, AskFault, Session};
 use sota_text::TextOut;
 use sota_units::{NoMemory, Steps};
@@ -66,8 +67,9 @@ pub fn show_plan<O: Sink, M: Ledger, P: Ledger>(
     ensures holds { IfOk result (λ _. HoldsUnlessRefused network (session_ask ask)) }
     ensures count { OnOk result (pushes.new ≡ pushes.old
         + pushes_unless (ask_fault network (session_ask ask))
-        (shown_pushes network (session_ask ask) (first_state network.nodes))) }
+        (region_pushes network (session_ask ask))) }
 {
+    asks_push_their_cells();
     let mut session = Session::new(alloc, network)?;
     let mut products = Steps::<M>::new(blank);
     let ask = session_ask(ask);
@@ -77,7 +79,8 @@ pub fn show_plan<O: Sink, M: Ledger, P: Ledger>(
     }
 }
 
-/// The answer of an ask, and its policy. The network of the session stays as it is.
+/// The answer of an ask, and its policy, which pushes nothing more. The network of the session
+/// stays as it is.
 fn make_plan<M: Ledger, P: Ledger>(
     session: &mut Session,
     ask: &Ask,
@@ -88,11 +91,14 @@ fn make_plan<M: Ledger, P: Ledger>(
     ensures holds { IfOk result (λ _. HoldsUnlessRefused session.old.network ask.now) }
     ensures few { IfOk result (λ plan. cells plan.table ≤ TABLE_LIMIT) }
     ensures kept { session.new.network ≡ session.old.network }
+    ensures valid { IsNet session.new.network }
     ensures count { OnOk result (pushes.new ≡ pushes.old
-        + shown_pushes session.old.network ask.now (kept_state session.old)) }
+        + pushes_for session.old.network ask.now (kept_state session.old)) }
     ensures no_push { IfErr result (λ fault.
         Unless (asks.is_shortage fault) (pushes.new ≡ pushes.old)) }
 {
+    accepted_asks_fit();
+    asks_push_their_cells();
     let answer = session.ask(*ask, products, pushes)?;
     let table = session.policy(*ask, products, pushes)?;
     // A check knows what holds of every table once this one is read.

@@ -13,6 +13,17 @@ pub(crate) const TRIANGLE_POLICY: &[u8] =
 \0\0\0\x02\x06\xf0\x5b\x59\xd3\xb2\0\0\
 \0\0\0\x02\x06\xf0\x5b\x59\xd3\xb2\0\0";
 
+/// The bracket of the triangle from 1 to 3 in 3 ticks.
+pub(crate) const TRIANGLE_BRACKET: &[u8] =
+    b"SOTAPOL2\0\0\0\x03\0\0\0\x03\0\0\0\x01\0\0\0\x03\0\0\0\x04\
+\0\0\0\x02\0\0\0\x02\
+\0\0\0\x01\x06\xf0\x5b\x59\xd3\xb2\0\0\x06\xf0\x5b\x59\xd3\xb2\0\0\
+\0\0\0\x03\x0a\x68\x89\x06\xbd\x8b\0\0\x0a\x68\x89\x06\xbd\x8b\0\0\
+\0\0\0\x01\0\0\0\x02\
+\0\0\0\x02\x06\xf0\x5b\x59\xd3\xb2\0\0\x06\xf0\x5b\x59\xd3\xb2\0\0\
+\0\0\0\x02\x06\xf0\x5b\x59\xd3\xb2\0\0\x06\xf0\x5b\x59\xd3\xb2\0\0\
+\0\0\0\0\0\0\0\0";
+
 /// The policy of a road of 5 ticks, for 5 ticks.
 pub(crate) const ROAD_POLICY: &[u8] =
     b"SOTAPOL1\0\0\0\x02\0\0\0\x02\0\0\0\x01\0\0\0\x05\0\0\0\x01\0\0\0\x01\
@@ -27,7 +38,7 @@ const TIGHT_POLICY: &[u8] = b"SOTAPOL1\0\0\0\x02\0\0\0\x02\0\0\0\x01\0\0\0\x04\0
 const STUCK_POLICY: &[u8] = b"SOTAPOL1\0\0\0\x02\0\0\0\x02\0\0\0\x01\0\0\0\x04\0\0\0\x01\0\0\0\0";
 
 /// Each by its name.
-pub(crate) const FILES: [(&str, &[u8]); 53] = [
+pub(crate) const FILES: [(&str, &[u8]); 60] = [
     // Graphs.
     ("triangle", TRIANGLE),
     ("road", b"p sp 2 1\na 1 2 5\n"),
@@ -102,17 +113,49 @@ pub(crate) const FILES: [(&str, &[u8]); 53] = [
     ("note", b"\n# note\n"),
     ("tight", b"ask 1 3 1"),
     ("stored", b"policy 1 3 3 p.pol"),
+    (
+        "bracket_stored",
+        b"bracket 1 3 3 b\nbracket 1 4 3 c\nbracket 1 3 3",
+    ),
     ("road_stored", b"policy 1 2 5 q"),
     ("lossy_stored", b"policy 1 2 9 l"),
     (
         "several",
         b"ask 1 3 2\nedit 2 1:4\nask 1 3 2\npolicy 1 3 3 p\n",
     ),
+    (
+        "reported",
+        b"ask @Home @Work 3\nask @Shop 3 3\nask 3 1 9\nedit 2 1:4\nclose 9\n\
+        policy @Home 3 3 @Work\nneed @Home @Work 0.750000000000000000 9\nroute @Work 3 3\n\
+        close 2\ngo @Home\nask 1 @Sh\xff 9 9\nask 2 3 3\nroute @Work 3 1 2\n",
+    ),
+    // Names of places, and some that are refused.
+    ("names", b"# places\n1 Home\n3 Work\n\n1 House\n"),
+    ("repeated_names", b"1 Home\n2 Home\n"),
+    ("far_names", b"1 Home\n4 Far"),
+    ("half_names", b"1 Home\n2"),
     // Policies.
     ("plan", TRIANGLE_POLICY),
+    ("bracket", TRIANGLE_BRACKET),
     ("road_plan", ROAD_POLICY),
     ("tight_plan", TIGHT_POLICY),
     ("stuck_plan", STUCK_POLICY),
+];
+
+/// The triangle's bracket with other bytes at a place, cut or filled up to a length, by its name.
+pub(crate) const CHANGED_BRACKETS: [(&str, usize, &[u8], usize); 7] = [
+    ("upper_bracket", 101, b"\xb1\xff\xff", 132),
+    (
+        "great_bracket",
+        68,
+        b"\xff\xff\xff\xff\xff\xff\xff\xff",
+        132,
+    ),
+    ("lower_bracket", 95, b"\x01", 132),
+    ("tail_bracket", 87, b"\x01", 132),
+    ("first_bracket", 79, b"\x02", 132),
+    ("cut_bracket", 0, b"", 131),
+    ("dest_bracket", 131, b"\x01", 152),
 ];
 
 /// The triangle's policy with other bytes at a place, cut or filled up to a length, by its name.

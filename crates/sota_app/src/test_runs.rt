@@ -1,6 +1,50 @@
 // Transcripts of runs. A run has its words after `>`, then what is written, and `=` before the
 // status.
 
+/// Of scripts with names of places, and replies for programs.
+pub(crate) const REPORTS: &str = "> report triangle times names reported
+{\"arc\":3,\"budget\":3,\"dest\":3,\"from\":\"Home\",\"kind\":\"answer\",\
+\"lower\":750000000000000000,\"origin\":1,\"to\":\"Work\",\"upper\":750000000000000000}
+{\"cause\":\"Place\",\"kind\":\"refused\",\"line\":2}
+{\"arc\":null,\"budget\":9,\"dest\":1,\"from\":\"Work\",\"kind\":\"answer\",\"lower\":0,\
+\"origin\":3,\"to\":\"Home\",\"upper\":0}
+{\"arc\":2,\"kind\":\"edited\"}
+{\"cause\":\"NoArc\",\"kind\":\"refused\",\"line\":5}
+{\"kind\":\"stored\",\"name\":\"@Work\"}
+{\"confidence\":750000000000000000,\"dest\":3,\"early\":2,\"from\":\"Home\",\"kind\":\"need\",\
+\"most\":9,\"origin\":1,\"sure\":2,\"to\":\"Work\"}
+{\"arcs\":1,\"budget\":3,\"dest\":3,\"kind\":\"route\",\"lower\":750000000000000000,\
+\"to\":\"Work\",\"upper\":750000000000000000}
+{\"arc\":2,\"kind\":\"closed\"}
+{\"cause\":\"Word\",\"kind\":\"refused\",\"line\":10}
+{\"cause\":\"Place\",\"kind\":\"refused\",\"line\":11}
+{\"arc\":null,\"budget\":3,\"dest\":3,\"from\":null,\"kind\":\"answer\",\"lower\":0,\
+\"origin\":2,\"to\":\"Work\",\"upper\":0}
+{\"arcs\":2,\"budget\":3,\"dest\":3,\"kind\":\"route\",\"lower\":0,\"to\":\"Work\",\"upper\":0}
+= 1
+> report triangle times names note
+= 0
+> report triangle times repeated_names reported
+refused names RepeatedName 2
+= 3
+> report triangle times far_names reported
+refused names NodeRange 2
+= 3
+> report triangle times half_names nowhere
+refused names Fields 2
+= 3
+> report triangle empty nowhere nowhere
+refused hists Header 0
+= 3
+> report triangle times nowhere reported
+= 4
+> report triangle times names nowhere
+= 4
+> report triangle times names
+refused words
+= 2
+";
+
 /// Of asks, of scripts, of policies that are judged and followed, and of networks that are made.
 pub(crate) const RUNS: &str = "> ask triangle - 1 3 2
 answer 1 3 2 1.000000000000000000 1.000000000000000000 1
@@ -253,6 +297,11 @@ need 1 3 0.111111111111111112 9 2 -
 > run triangle times stored
 stored p.pol
 = 0
+> run triangle times bracket_stored
+stored b
+refused 2 NoDest
+refused 3 Count
+= 1
 > run road - road_stored
 stored q
 = 0
@@ -291,6 +340,39 @@ refused policy Range 1
 = 3
 > check triangle times order_plan
 refused policy Order 2
+= 3
+> check triangle times bracket
+enclosed 1 3 3 0.750000000000000000 0.750000000000000000
+= 0
+> check triangle times great_bracket
+enclosed 1 3 3 0.750000000000000000 1.000000000000000000
+= 0
+> check triangle times upper_bracket
+rejected Upper 2 1
+= 1
+> check triangle times lower_bracket
+rejected Lower 2 1
+= 1
+> check triangle times tail_bracket
+rejected WrongTail 2 1
+= 1
+> check triangle times first_bracket
+rejected Potential 2
+= 1
+> check road - bracket
+rejected Size
+= 1
+> check triangle thirds bracket
+rejected Scale
+= 1
+> check triangle times cut_bracket
+refused policy Truncated 124
+= 3
+> check triangle times dest_bracket
+refused policy Range 3
+= 3
+> replay triangle times bracket 3 1
+refused policy Magic 0
 = 3
 > check road - road_plan
 accepted 1 2 5 1.000000000000000000

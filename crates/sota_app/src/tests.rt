@@ -1,8 +1,10 @@
 // Runs over desks and sinks in memory.
 ghost use Rattle.std.specs.Prelude.{◌≡◌, ◌<◌};
 
-use crate::test_files::{CHANGED, FILES, ROAD_POLICY, TRIANGLE, TRIANGLE_POLICY};
-use crate::test_runs::{FAULTS, RUNS};
+use crate::test_files::{
+    CHANGED, CHANGED_BRACKETS, FILES, ROAD_POLICY, TRIANGLE, TRIANGLE_BRACKET, TRIANGLE_POLICY,
+};
+use crate::test_runs::{FAULTS, REPORTS, RUNS};
 use crate::{Status, run};
 use sota_edge::{Desk, MemoryDesk, MemorySink, Sink, SureDesk, SureSink};
 use sota_text::{TextOut, read_u32};
@@ -65,16 +67,22 @@ fn many_arcs(alloc: Global) -> Result<TextOut, Fail> {
     Ok(text)
 }
 
-/// The triangle's policy with other bytes at a place, cut or filled up to a length.
-fn changed(alloc: Global, place: usize, bytes: &[u8], length: usize) -> Result<Vec<u8>, Fail> {
-    let mut policy = TRIANGLE_POLICY.to_vec(alloc)?;
+/// A file with other bytes at a place, cut or filled up to a length.
+fn changed(
+    alloc: Global,
+    file: &[u8],
+    place: usize,
+    bytes: &[u8],
+    length: usize,
+) -> Result<Vec<u8>, Fail> {
+    let mut file = file.to_vec(alloc)?;
     for (index, byte) in bytes.iter().enumerate() {
-        if let Some(place) = policy.get_mut(place.saturating_add(index)) {
+        if let Some(place) = file.get_mut(place.saturating_add(index)) {
             *place = *byte;
         }
     }
-    policy.resize(length, 0)?;
-    Ok(policy)
+    file.resize(length, 0)?;
+    Ok(file)
 }
 
 /// A desk that cannot fail, and one that could.
@@ -97,7 +105,16 @@ impl Desks {
             desks.insert(name, bytes)?;
         }
         for (name, place, bytes, length) in CHANGED {
-            desks.insert(name, &changed(alloc, place, bytes, length)?)?;
+            desks.insert(
+                name,
+                &changed(alloc, TRIANGLE_POLICY, place, bytes, length)?,
+            )?;
+        }
+        for (name, place, bytes, length) in CHANGED_BRACKETS {
+            desks.insert(
+                name,
+                &changed(alloc, TRIANGLE_BRACKET, place, bytes, length)?,
+            )?;
         }
         desks.insert("even", even_times(alloc)?.as_bytes())?;
         desks.insert("many", many_arcs(alloc)?.as_bytes())?;
@@ -197,8 +214,10 @@ fn first_wrong(desks: &mut Desks, transcript: &'static str) -> Result<Option<&'s
 fn runs(rt: HostRuntime) -> Result<(), Fail> {
     let mut desks = Desks::new(rt.alloc(), 0)?;
     assert_eq!(rt; first_wrong(&mut desks, RUNS)?, None);
+    assert_eq!(rt; first_wrong(&mut desks, REPORTS)?, None);
     assert!(rt; desks.sure.held("p.pol") == Some(TRIANGLE_POLICY));
     assert!(rt; desks.sure.held("q") == Some(ROAD_POLICY));
+    assert!(rt; desks.sure.held("b") == Some(TRIANGLE_BRACKET));
     Ok(())
 }
 

@@ -4,39 +4,40 @@ ghost use Rattle.std.specs.Prelude.{map, string_bytes};
 ghost use Rattle.sota_edge.specs.Counts.{Rose};
 ghost use Rattle.sota_edge.specs.Desk.{Files};
 ghost use Rattle.sota_network.specs.Network.{Net};
+ghost use Rattle.sota_polfile.specs.Bracket.{Bracket};
 ghost use Rattle.sota_polfile.specs.Table.{Table};
 ghost use Rattle.sota_app.specs.Outputs.{Ends, LineEnds};
 ghost use Rattle.sota_app.specs.Words.{request_of};
 ghost use Rattle.sota_app.specs.Inputs.{NoInputWritten, IsShortJob, job_of};
 ghost use Rattle.sota_app.specs.Inputs.{IsWorked, IsIdle, JobHolds};
 ghost use Rattle.sota_app.specs.Work.{job_work};
-ghost use Rattle.sota_app.specs.Commands.{CommandLine, IsDone, Bracketed, Allowed};
+ghost use Rattle.sota_app.specs.Commands.{CommandLine, IsDone, Routed, Allowed};
 ghost use Rattle.sota_script.specs.declared.command.Command.TheVariants.{Route, Need};
 ghost use Rattle.sota_app.specs.Outcome as outcomes;
 ghost use Rattle.sota_app.specs.Outcome.{outcome, refused_words, job_outcome};
 ghost use Rattle.sota_app.specs.Causes.{Ended, Delivered, NoFault, status_of};
 ghost use Rattle.sota_app.specs.Meaning.{AskLine, IsAnswered, Meant, IsJudged, Attested};
+ghost use Rattle.sota_app.specs.Meaning.{IsBracketJudged, Enclosed};
 ghost use Rattle.sota_app.specs.Meaning.{IsReplayed, Replayed, IsJob, IsShown, Shown};
 ghost use Rattle.sota_script.specs.declared.command.Ask3.{Ask3};
 ghost use Rattle.sota_app.specs.declared.words.Trips.{Trips};
 
-use crate::checking::{check_policy, replay_policy};
+use crate::checking::{check_policy, judge_bracket, replay_policy};
 use crate::input::NoInput;
 use crate::inputs::{Job, Task, load_task};
+use crate::laws::{answers_are_meant, requests_have_networks};
 use crate::output::write_line;
 use crate::player::play_lines;
 use crate::showing::show_plan;
 use crate::status::Status;
 use crate::stop::Stop;
 use crate::words::read_words;
-use sota_check::laws::{certified_attains, passed_policies_hold};
-use sota_dimacs::laws::texts_mean_graphs;
+use sota_check::laws::{
+    bracketed_encloses, certified_attains, passed_brackets_hold, passed_policies_hold,
+};
 use sota_edge::{Desk, Sink, put_all};
-use sota_hist::laws::built_times;
-use sota_histcsv::laws::texts_mean_networks;
-use sota_make::laws::made_networks;
 use sota_network::Network;
-use sota_network::laws::{edits_keep_networks, grid_encloses};
+use sota_network::laws::grid_encloses;
 use sota_quantile::laws::needs_by_trees;
 use sota_route::laws::routes_are_enclosed;
 use sota_units::Steps;
@@ -92,6 +93,7 @@ fn do_job<D: Desk, O: Sink, P: Ledger>(
             play_lines::<D, O, Brand, P>(alloc, network, &script, desk, out, blank, pushes)
         }
         Job::Judge(table) => check_policy(alloc, &network, &table, out),
+        Job::JudgeBracket(table) => judge_bracket(alloc, &network, &table, out),
         Job::Replay(table, trips) => replay_policy(alloc, &network, &table, trips, out),
         Job::Show(ask) => {
             let blank = Blank::new(1);
@@ -167,6 +169,13 @@ pub fn run<D: Desk, O: Sink, P: Ledger>(
         → IsJudged (map string_bytes words.now) files net table
         → Attested net table (O.state out.old) (O.state out.new) }
 
+    // And where a bracket was to be judged and all is done, its bounds enclose the greatest on-time
+    // probability, and following it attains the lower one.
+    ensures enclosed { (files : Files) (net : Net) (table : Bracket)
+        → (D.state desk.old).holds ≡ Some files → result ≡ Status.Done
+        → IsBracketJudged (map string_bytes words.now) files net table
+        → Enclosed net table (O.state out.old) (O.state out.new) }
+
     // And where trips were to follow a policy and all is done, it holds, and each of the trips by
     // the words of the seed was counted once.
     ensures replayed { (files : Files) (net : Net) (table : Table) (trips : Trips)
@@ -181,14 +190,14 @@ pub fn run<D: Desk, O: Sink, P: Ledger>(
         → result ≢ Status.NoMemory → IsShown (map string_bytes words.now) files net ask
         → Shown net ask result (O.state out.old) (O.state out.new) }
 
-    // And each route that is bracketed and each need that is answered means what it says of
+    // And each route that is enclosed and each need that is answered means what it says of
     // decision trees, on the network of its line.
-    ensures bracketed { (files : Files) (line : CommandLine) (dest budget : ℕ) (arcs : List ℕ)
+    ensures routed { (files : Files) (line : CommandLine) (dest budget : ℕ) (arcs : List ℕ)
         → (D.state desk.old).holds ≡ Some files
         → NoFault (D.state desk.old) (D.state desk.new) (O.state out.old) (O.state out.new)
         → result ≢ Status.NoMemory → IsDone (map string_bytes words.now) files line
         → line.command ≡ Route dest budget arcs
-        → Bracketed line dest budget arcs (O.state out.old) (O.state out.new) }
+        → Routed line dest budget arcs (O.state out.old) (O.state out.new) }
     ensures allowed { (files : Files) (line : CommandLine) (ask : Ask3) (confidence : ℕ)
         → (D.state desk.old).holds ≡ Some files
         → NoFault (D.state desk.old) (D.state desk.new) (O.state out.old) (O.state out.new)
@@ -203,14 +212,13 @@ pub fn run<D: Desk, O: Sink, P: Ledger>(
         → pushes.new ≡ pushes.old + job_work net job }
     ensures idle { IsIdle result → pushes.new ≡ pushes.old }
 {
-    texts_mean_graphs();
-    texts_mean_networks();
-    built_times();
-    edits_keep_networks();
+    requests_have_networks();
+    answers_are_meant();
     grid_encloses();
     passed_policies_hold();
     certified_attains();
-    made_networks();
+    passed_brackets_hold();
+    bracketed_encloses();
     routes_are_enclosed();
     needs_by_trees();
     match serve(alloc, words, desk, out, pushes) {

@@ -1,11 +1,11 @@
 // The words of the command line.
 ghost use Rattle.std.specs.Prelude.{◌≡◌, true, map, string_bytes, option_map, IfSome};
 ghost use Rattle.sota_make.specs.Made.{is_size};
-ghost use Rattle.sota_app.specs.Words.{ask_of, ask_request, file_request};
+ghost use Rattle.sota_app.specs.Words.{ask_of, ask_request, file_request, report_request};
 ghost use Rattle.sota_app.specs.Words.{trips_of, replay_request, make_of, make_request};
 ghost use Rattle.sota_app.specs.Words.{request_of, five, IsSized};
 ghost use Rattle.sota_app.specs.Shown.{ask_made};
-ghost use Rattle.sota_text.specs.Words.{three};
+ghost use Rattle.sota_text.specs.Words.{three, four};
 
 use sota_make::is_size;
 use sota_script::Ask3;
@@ -52,6 +52,29 @@ impl<'a> Model for FileWords<'a> {
       graph = words.graph.now;
       hists = words.hists.now;
       file = words.file.now;
+    } };
+}
+
+/// The words `report GRAPH HISTS NAMES SCRIPT`: the names of the graph, of the histograms, of the
+/// file of place names and of the script.
+#[derive(Drop)]
+pub struct ReportWords<'a> {
+    pub graph: &'a str,
+    pub hists: &'a str,
+    pub names: &'a str,
+    pub script: &'a str,
+}
+
+impl<'a> Model for ReportWords<'a> {
+    ghost use Rattle.sota_app.specs.Requests.{ReportRequest};
+
+    ghost Value = { ReportRequest };
+
+    ghost view = { λ words. record {
+      graph = words.graph.now;
+      hists = words.hists.now;
+      names = words.names.now;
+      script = words.script.now;
     } };
 }
 
@@ -105,6 +128,8 @@ pub enum Request<'a> {
     Replay(ReplayWords<'a>),
     /// The plan of a network that is made.
     Make(MakeWords),
+    /// Every line of a script in order, with names of places, and replies for programs.
+    Report(ReportWords<'a>),
 }
 
 /// The request of the words after the program's name. None exactly where they are no request.
@@ -123,6 +148,8 @@ pub fn read_words(words: &[String]) -> Option<Request<'_>>
         Some(Request::Replay(read_replay_words(rest)?))
     } else if first.as_str() == "make" {
         Some(Request::Make(read_make_words(rest)?))
+    } else if first.as_str() == "report" {
+        Some(Request::Report(read_report_words(rest)?))
     } else {
         None
     }
@@ -143,6 +170,19 @@ fn read_file_words(words: &[String]) -> Option<FileWords<'_>>
 {
     let (graph, hists, file) = three_words(words)?;
     Some(FileWords { graph, hists, file })
+}
+
+/// The words `GRAPH HISTS NAMES SCRIPT`.
+fn read_report_words(words: &[String]) -> Option<ReportWords<'_>>
+    ensures { result ≡ report_request (map string_bytes words.now) }
+{
+    let (graph, hists, names, script) = four_words(words)?;
+    Some(ReportWords {
+        graph,
+        hists,
+        names,
+        script,
+    })
 }
 
 /// The words `GRAPH HISTS POLICY TRIPS SEED`.
@@ -168,6 +208,18 @@ fn five_words(words: &[String]) -> Option<(&str, &str, &str, &str, &str)>
     let (first, second) = (words[0].as_str(), words[1].as_str());
     let (third, fourth, fifth) = (words[2].as_str(), words[3].as_str(), words[4].as_str());
     Some((first, second, third, fourth, fifth))
+}
+
+/// The words, if they are four.
+fn four_words(words: &[String]) -> Option<(&str, &str, &str, &str)>
+    ensures { option_map (λ w. (w.0.now, w.1.now, w.2.now, w.3.now)) result
+        ≡ four (map string_bytes words.now) }
+{
+    if words.len() != 4 {
+        return None;
+    }
+    let (first, second) = (words[0].as_str(), words[1].as_str());
+    Some((first, second, words[2].as_str(), words[3].as_str()))
 }
 
 /// The words, if they are three.

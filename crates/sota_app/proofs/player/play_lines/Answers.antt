@@ -12,4 +12,4 @@ returns-in_err-session-clause-made g c =
     let is : c.from_residual.result ≡ Err stops.NoMemory = search rules in
     let d : DeskState = g.D.Desk.state c.args.desk.now in
     let s : SinkState = g.O.Sink.state c.args.out.now in
-    rw is (nothing_made (outputs_to c.args.network (lines_of c.args.script.now)) d d s s refl refl)
+    rw is (nothing_made (outputs_to c.args.script.now.voice c.args.network (lines_of c.args.script.now)) d d s s refl refl)

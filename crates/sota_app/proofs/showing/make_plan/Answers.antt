@@ -1,4 +1,5 @@
 use Rattle.std.proofs.Common.{rules, ◌≡◌, None}
+use Rattle.sota_network.specs.Network.{IsNet}
 use Rattle.sota_polfile.specs.Table.{Table}
 use Rattle.sota_session.specs.Asks.{ask_fault}
 use Rattle.sota_session.specs.Plans.{plan_table}
@@ -14,10 +15,15 @@ returns-clause-few g c =
     let table : Table = c.in_ok-table.table in
     let answered : ask_fault net ask ≡ None = search rules in
     let is : table ≡ plan_table net ask = search rules in
-    rw is (few_cells net ask answered)
+    rw is (few_cells net ask (c.accepted_asks_fit.ensures net ask answered))
 
 pub returns-clause-count : goal.returns-clause-count
 returns-clause-count g c =
-    shown_count c.args.session.now.network _ c.args.ask.now (kept_state c.args.session.now) _ _ _ _
-    c.in_ok-answer.ensures.count c.in_ok-answer.ensures.kept c.in_ok-answer.ensures.state
-    c.in_ok-table.ensures.count
+    let net = c.args.session.now.network in
+    let ask = c.args.ask.now in
+    let kept = kept_state c.args.session.now in
+    let answered : ask_fault net ask ≡ None = search rules in
+    let valid : IsNet net = rw (← c.in_ok-answer.ensures.kept) c.in_ok-answer.ensures.valid in
+    shown_count net _ ask kept _ _ _ _ c.in_ok-answer.ensures.count c.in_ok-answer.ensures.kept
+    c.in_ok-answer.ensures.state c.in_ok-table.ensures.count
+    (c.asks_push_their_cells.ensures.again net ask kept valid answered)

@@ -1,12 +1,15 @@
-use Rattle.std.proofs.Common.{rules, ◌≡◌, Ok, Err, refl}
+use Rattle.std.proofs.Common.{rules, ◌≡◌, ◌∙◌, None, Ok, Err, refl, subst}
+use Rattle.sota_network.specs.Network.{IsNet}
 use Rattle.sota_kept.specs.States.{first_state}
 use Rattle.sota_units.specs.Memory.{Unless}
 use Rattle.sota_edge.specs.Sink.{SinkState}
 use Rattle.sota_session.specs.Answers as asks
+use Rattle.sota_session.specs.Asks.{ask_fault}
 use Rattle.sota_session.specs.State.{kept_state}
 use Rattle.sota_app.specs.Script.{session_ask}
 use Rattle.sota_app.specs.Shown.{plan_result}
 use Rattle.sota_app.specs.Outcome.{shown}
+use Rattle.sota_app.specs.Work.{region_pushes}
 use Rattle.sota_app.proofs.Worked.{shown_all, shown_first, refused_count}
 use Rattle.sota_app.specs.declared.stop.Stop.TheVariants as stops
 use Rattle.sota_app.proofs.Made.{nothing_made}
@@ -36,9 +39,14 @@ returns-in-Ok-clause-count g c =
     let net = c.args.network in
     let ask = session_ask c.args.ask in
     let answers : plan_result net ask ≡ Ok c.in-Ok.plan = search rules in
+    let accepted : ask_fault net ask ≡ None = search rules in
+    let valid : IsNet net =
+    subst IsNet (c.in-Ok.ensures.kept ∙ c.in_ok-session.ensures.network) c.in-Ok.ensures.valid in
     let made = shown_first net c.in_ok-session.session.network ask c.session_ask-ask.result
-    (kept_state c.in_ok-session.session) (first_state net.nodes) _ _ c.in-Ok.ensures.count
-    c.in_ok-session.ensures.network c.session_ask-ask.ensures c.in_ok-session.ensures.state in
+    (kept_state c.in_ok-session.session) (first_state net.nodes) _ _ (region_pushes net ask)
+    c.in-Ok.ensures.count c.in_ok-session.ensures.network c.session_ask-ask.ensures
+    c.in_ok-session.ensures.state
+    (c.asks_push_their_cells.ensures.first net ask valid accepted) in
     shown_all net ask c.in-Ok.plan c.write_plan.result _ _ _ answers made
 
 pub returns-clause-count : goal.returns-clause-count

@@ -13,6 +13,14 @@ returns-in-Judge-clause-made g c =
     rw is (only_line_ends c.check_policy.result _ d d s _ refl (omega arith)
     c.check_policy.ensures.line)
 
+pub returns-in-JudgeBracket-clause-made : goal.returns-in-JudgeBracket-clause-made
+returns-in-JudgeBracket-clause-made g c =
+    let is : c.args.job ≡ jobs.JudgeBracket c.in-JudgeBracket.table = search rules in
+    let d : DeskState = g.D.Desk.state c.args.desk.now in
+    let s : SinkState = g.O.Sink.state c.args.out.now in
+    rw is (only_line_ends c.judge_bracket.result _ d d s _ refl (omega arith)
+    c.judge_bracket.ensures.line)
+
 pub returns-in-Replay-clause-made : goal.returns-in-Replay-clause-made
 returns-in-Replay-clause-made g c =
     let is : c.args.job ≡ jobs.Replay c.in-Replay.table c.in-Replay.trips = search rules in

@@ -1,4 +1,4 @@
-use Rattle.std.proofs.Common.{◌≡◌, List, ℕ, None, map, string_bytes, subst}
+use Rattle.std.proofs.Common.{◌≡◌, List, ℕ, None, map, string_bytes, sym, subst}
 use Rattle.sota_script.specs.declared.command.Command.{Command}
 use Rattle.sota_script.specs.declared.command.Command.TheVariants.{Route, Need}
 use Rattle.sota_route.specs.Faults.{route_fault}
@@ -13,21 +13,22 @@ use Rattle.sota_session.specs.Plans.{plan_table}
 use Rattle.sota_app.specs.Script.{session_ask}
 use Rattle.sota_words.specs.Drawn.{words_of}
 use Rattle.sota_app.specs.Words.{request_of}
-use Rattle.sota_app.specs.Verdicts.{named, accepted_line}
+use Rattle.sota_app.specs.Verdicts.{named, accepted_line, bracket_named, enclosed_line}
 use Rattle.sota_app.specs.Shown.{PlanHolds}
 use Rattle.sota_app.specs.Inputs.{IsWorked}
 use Rattle.sota_check.specs.Certified.{rule, IsCertified}
-use Rattle.sota_app.specs.Outcome.{play, judge, show, shown}
+use Rattle.sota_check.specs.Rejected.{rejection}
+use Rattle.sota_polfile.specs.Bracket.{IsBracket}
+use Rattle.sota_check.specs.Bracketed.{IsBracketed}
+use Rattle.sota_check.specs.BracketRejected.{bracket_rejection}
+use Rattle.sota_app.specs.Outcome.{play, judge, judge_bracket, show, shown}
 use Rattle.sota_app.specs.Causes.{Delivered}
 use Rattle.sota_app.specs.Meaning.{line_net}
 use Rattle.sota_app.proofs.Exact.{exact, done_stands}
-use Rattle.sota_app.proofs.Sized.{all_sized}
-use Rattle.sota_app.proofs.EachLine.{keeps_network}
-use Rattle.sota_app.proofs.Answered.{means_network, line_written}
-use Rattle.sota_app.proofs.Judged.{IsPassed, judged_done, tally_line, replayed_done, all_counted}
+use Rattle.sota_app.proofs.Answered.{line_written}
+use Rattle.sota_app.proofs.Judged.{IsPassed, judged_done, bracket_done, tally_line, replayed_done, all_counted}
 use Rattle.sota_app.proofs.Judged.{delivered}
 use Rattle.sota_app.proofs.ShownPlan.{IsWritten, shown_done, shown_worked}
-use Rattle.sota_app.proofs.MeantBounds.{meant_bounds}
 use Rattle.sota_app.proofs.top.run.Goals as goal
 
 pub returns-in-Ok-clause-exact : goal.returns-in-Ok-clause-exact
@@ -39,13 +40,10 @@ returns-in-Ok-clause-meaning g c = λ files line tells none ran answered.
     let words : List (List ℕ) = map (λ word. string_bytes word) c.args.words.now in
     let net = line_net line in
     let valid : IsNet net =
-    keeps_network c.built_times.ensures.at_most c.edits_keep_networks.ensures line.above line.net
-    (means_network c.texts_mean_graphs.ensures c.texts_mean_networks.ensures.text
-    c.texts_mean_networks.ensures.weights c.made_networks.ensures.valid (request_of words)
-    (all_sized words) files (record { net = line.net; job = play answered.lines })
+    c.requests_have_networks.ensures.lines line.net line.above
+    (c.requests_have_networks.ensures.valid words files line.net (play line.voice answered.lines)
     answered.request) in
     let answer = answer_of net (session_ask line.ask) in
-    let law = c.grid_encloses.ensures in
     record {
       lower = answer.lower;
       upper = answer.upper;
@@ -53,20 +51,17 @@ returns-in-Ok-clause-meaning g c = λ files line tells none ran answered.
       written = line_written line words (request_of words) files _ _ _ _ _ answered
           answered.lines answered.request answered.place
           (exact _ _ _ _ _ _ _ tells none ran c.in-Ok.ensures.ended.cause);
-      meant = meant_bounds law.encloses law.order law.gap law.whole law.fits law.attains net
-          line.ask valid;
+      meant = c.answers_are_meant.ensures net line.ask valid;
     }
 
 pub returns-in-Ok-clause-accepted : goal.returns-in-Ok-clause-accepted
 returns-in-Ok-clause-accepted g c = λ files net table tells is judged.
     let words : List (List ℕ) = map (λ word. string_bytes word) c.args.words.now in
-    let passed : IsPassed net table (accepted_line (named table)) _ _ =
+    let passed : IsPassed (rejection net table) (accepted_line (named table)) _ _ =
     judged_done net table (request_of words) files _ _ _ _ judged
     (done_stands _ _ _ _ _ _ _ is tells c.in-Ok.ensures.ended.cause) in
     let valid : IsNet net =
-    means_network c.texts_mean_graphs.ensures c.texts_mean_networks.ensures.text
-    c.texts_mean_networks.ensures.weights c.made_networks.ensures.valid (request_of words)
-    (all_sized words) files (record { net = net; job = judge table }) judged in
+    c.requests_have_networks.ensures.valid words files net (judge table) judged in
     let holds : IsCertified net table =
     c.passed_policies_hold.ensures.holds net table passed.none in
     let head = table.head in
@@ -80,10 +75,34 @@ returns-in-Ok-clause-accepted g c = λ files net table tells is judged.
       whole = c.certified_attains.ensures.whole net table head.origin head.budget valid holds;
     }
 
+pub returns-in-Ok-clause-enclosed : goal.returns-in-Ok-clause-enclosed
+returns-in-Ok-clause-enclosed g c = λ files net table tells is judged.
+    let words : List (List ℕ) = map (λ word. string_bytes word) c.args.words.now in
+    let passed : IsPassed (bracket_rejection net table) (enclosed_line (bracket_named table)) _ _ =
+    bracket_done net table (request_of words) files _ _ _ _ judged
+    (done_stands _ _ _ _ _ _ _ is tells c.in-Ok.ensures.ended.cause) in
+    let valid : IsNet net =
+    c.requests_have_networks.ensures.valid words files net (judge_bracket table) judged in
+    let table_is : IsBracket table =
+    c.in-Ok.ensures.holds files net (judge_bracket table) tells judged
+    (subst IsWorked (sym is) tt) in
+    let holds : IsBracketed net table =
+    c.passed_brackets_hold.ensures.holds net table passed.none in
+    let head = table.head in
+    let law = c.bracketed_encloses.ensures in
+    record {
+      written = passed.written;
+      holds = holds;
+      encloses = law.encloses net table head.origin head.budget valid table_is holds;
+      fits = law.fits net table head.origin head.budget valid;
+      attains = law.attains net table head.origin head.budget valid holds;
+      whole = (law.whole net table head.origin head.budget valid holds).1;
+    }
+
 pub returns-in-Ok-clause-replayed : goal.returns-in-Ok-clause-replayed
 returns-in-Ok-clause-replayed g c = λ files net table trips tells is asked.
     let words : List (List ℕ) = map (λ word. string_bytes word) c.args.words.now in
-    let passed : IsPassed net table (tally_line net table trips) _ _ =
+    let passed : IsPassed (rejection net table) (tally_line net table trips) _ _ =
     replayed_done net table trips (request_of words) files _ _ _ _ asked
     (done_stands _ _ _ _ _ _ _ is tells c.in-Ok.ensures.ended.cause) in
     record {
@@ -107,19 +126,15 @@ returns-in-Ok-clause-shown g c = λ files net ask tells none ran asked.
     shown_done net (session_ask ask) _ _ _ _ _ asked.accepted
     (c.passed_policies_hold.ensures.passes net table holds.table holds.holds) holds.bound made in
     let valid : IsNet net =
-    means_network c.texts_mean_graphs.ensures c.texts_mean_networks.ensures.text
-    c.texts_mean_networks.ensures.weights c.made_networks.ensures.valid (request_of words)
-    (all_sized words) files (record { net = net; job = show ask }) asked.job in
+    c.requests_have_networks.ensures.valid words files net (show ask) asked.job in
     let answer = answer_of net (session_ask ask) in
-    let law = c.grid_encloses.ensures in
     record {
       done = written.done;
       lower = answer.lower;
       upper = answer.upper;
       next = answer.next;
       written = written.written;
-      meant = meant_bounds law.encloses law.order law.gap law.whole law.fits law.attains net ask
-          valid;
+      meant = c.answers_are_meant.ensures net ask valid;
       holds = holds.holds;
     }
 
@@ -129,15 +144,14 @@ returns-in-Err-PutFailed-clause-idle g c = λ idle. absurd idle
 pub returns-in-Err-NoMemory-clause-idle : goal.returns-in-Err-NoMemory-clause-idle
 returns-in-Err-NoMemory-clause-idle g c = λ idle. absurd idle
 
-pub returns-in-Ok-clause-bracketed : goal.returns-in-Ok-clause-bracketed
-returns-in-Ok-clause-bracketed g c = λ files line dest budget arcs tells none ran done is.
+pub returns-in-Ok-clause-routed : goal.returns-in-Ok-clause-routed
+returns-in-Ok-clause-routed g c = λ files line dest budget arcs tells none ran done is.
     let words : List (List ℕ) = map (λ word. string_bytes word) c.args.words.now in
     let net = command_net line in
     let valid : IsNet net =
-    keeps_network c.built_times.ensures.at_most c.edits_keep_networks.ensures line.above line.net
-    (means_network c.texts_mean_graphs.ensures c.texts_mean_networks.ensures.text
-    c.texts_mean_networks.ensures.weights c.made_networks.ensures.valid (request_of words)
-    (all_sized words) files (record { net = line.net; job = play done.lines }) done.request) in
+    c.requests_have_networks.ensures.lines line.net line.above
+    (c.requests_have_networks.ensures.valid words files line.net (play line.voice done.lines)
+    done.request) in
     let all = exact _ _ _ _ _ _ _ tells none ran c.in-Ok.ensures.ended.cause in
     let clear : route_fault net dest budget arcs ≡ None =
     none_of (λ fault. refusals.Route fault) (route_fault net dest budget arcs)
@@ -154,10 +168,9 @@ returns-in-Ok-clause-allowed g c = λ files line ask confidence tells none ran d
     let words : List (List ℕ) = map (λ word. string_bytes word) c.args.words.now in
     let net = command_net line in
     let valid : IsNet net =
-    keeps_network c.built_times.ensures.at_most c.edits_keep_networks.ensures line.above line.net
-    (means_network c.texts_mean_graphs.ensures c.texts_mean_networks.ensures.text
-    c.texts_mean_networks.ensures.weights c.made_networks.ensures.valid (request_of words)
-    (all_sized words) files (record { net = line.net; job = play done.lines }) done.request) in
+    c.requests_have_networks.ensures.lines line.net line.above
+    (c.requests_have_networks.ensures.valid words files line.net (play line.voice done.lines)
+    done.request) in
     let all = exact _ _ _ _ _ _ _ tells none ran c.in-Ok.ensures.ended.cause in
     let law = c.needs_by_trees.ensures in
     record {

@@ -13,3 +13,10 @@ returns-in_ok-bytes-in-Policy-clause-effort g c =
       pushes = rw c.session_ask-in-Policy.ensures at c.in_ok-table-in-Policy.ensures.count;
       kept_is = rw c.session_ask-in-Policy.ensures at c.in_ok-table-in-Policy.ensures.state;
     })
+
+pub returns-in_ok-bytes-in-Bracket-clause-effort : goal.returns-in_ok-bytes-in-Bracket-clause-effort
+returns-in_ok-bytes-in-Bracket-clause-effort g c =
+    rw (c.in-Bracket.is) (record {
+      pushes = rw c.session_ask-in-Bracket.ensures at c.in_ok-table-in-Bracket.ensures.count;
+      kept_is = rw c.session_ask-in-Bracket.ensures at c.in_ok-table-in-Bracket.ensures.state;
+    })

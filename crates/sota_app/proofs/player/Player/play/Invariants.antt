@@ -12,17 +12,17 @@ use Rattle.sota_app.proofs.player.Player.play.Given as goal
 abbrev pub invariant-loop-line : goal.invariant-loop-line
 invariant-loop-line g l = record {
   within : AreWithin l.bytes (map (λ (line : Line). line.span) l.line-iterator);
-  lines : script_lines l.bytes
-      ≡ map (line_at l.bytes) l.yielded ++ map (line_at l.bytes) l.line-iterator;
+  lines : script_lines l.fn.script.voice l.bytes
+      ≡ map (line_at l.fn.script.voice l.bytes) l.yielded ++ map (line_at l.fn.script.voice l.bytes) l.line-iterator;
   desk : l.self.desk.ghost_name ≡ l.fn.self.desk.ghost_name;
   sink : l.self.out.ghost_name ≡ l.fn.self.out.ghost_name;
   pushes : l.self.pushes.ghost_name ≡ l.fn.self.pushes.ghost_name;
   work : l.fn.self.pushes.now
-      + work l.fn.self.session.now.network (script_lines l.bytes) (kept_state l.fn.self.session.now)
+      + work l.fn.self.session.now.network (script_lines l.fn.script.voice l.bytes) (kept_state l.fn.self.session.now)
       ≡ l.self.pushes.now
-      + work l.self.session.now.network (map (line_at l.bytes) l.line-iterator)
+      + work l.self.session.now.network (map (line_at l.fn.script.voice l.bytes) l.line-iterator)
       (kept_state l.self.session.now);
-  reached : Reached (map (line_at l.bytes) l.yielded) l.fn.self.session.now.network
+  reached : Reached l.fn.script.voice (map (line_at l.fn.script.voice l.bytes) l.yielded) l.fn.self.session.now.network
       l.self.session.now.network l.refused
       (g.D.Desk.state l.fn.self.desk.now) (g.D.Desk.state l.self.desk.now)
       (g.O.Sink.state l.fn.self.out.now) (g.O.Sink.state l.self.out.now);
