@@ -31,8 +31,17 @@ PLAN = bytes.fromhex(
     "00000001 00000002 00000002 00000001 06f05b59d3b20000 00000003 0a688906bd8b0000"
     "00000002 00000001 00000002 00000002 06f05b59d3b20000 00000002 06f05b59d3b20000"
 )
-LINES = [b"ask 1 3 2", b"edit 2 1:2 3:2", b"close 3", b"policy 4 3 3 name", b"# note", b"",
-         b"\task 3 1 9", b"edit 3 3:3 5:1", b"route 3 3 1 2", b"need 1 3 0.750000000000000000 9"]
+BRACKET = bytes.fromhex(
+    "534f5441504f4c32 00000003 00000003 00000001 00000003 00000004"
+    "00000002 00000002 00000001 06f05b59d3b20000 06f05b59d3b20000"
+    "00000003 0a688906bd8b0000 0a688906bd8b0000"
+    "00000001 00000002 00000002 06f05b59d3b20000 06f05b59d3b20000"
+    "00000002 06f05b59d3b20000 06f05b59d3b20000 00000000 00000000"
+)
+NAMES = "# places\n1 Home\n3 Work\n\n1 H\u00e4user\n".encode()
+LINES = [b"ask 1 3 2", b"edit 2 1:2 3:2", b"close 3", b"policy 4 3 3 name", b"bracket 4 3 3 name",
+         b"# note", b"", b"\task 3 1 9", b"edit 3 3:3 5:1", b"route 3 3 1 2",
+         b"need 1 3 0.750000000000000000 9"]
 
 GRAIN = rb"[01]\.\d{18}"
 ANSWER = rb"answer \d+ \d+ \d+ " + GRAIN + rb" " + GRAIN + rb" (-|\d+)"
@@ -41,6 +50,7 @@ CAUSES = {
              rb"|TooManyNodes|ArcLimit",
     "hists": rb"Header|Fields|Number|NoArc|ZeroTick|RepeatedTick|Sum|ZeroTime",
     "policy": rb"Magic|Truncated|Order|Range|Trailing",
+    "names": rb"Fields|Number|NodeRange|NotText|RepeatedName",
 }
 LINE_CAUSES = (rb"Word|Count|Number|Name|ZeroTick|RepeatedTick|Sum|NoArc|NoOrigin|NoDest|Budget"
                rb"|NotThere|(TableCells|BroadCells|RouteArcs|NoLeg|Broken) \d+")
@@ -48,6 +58,14 @@ REPLY = (ANSWER + rb"|edited \d+|closed \d+|route \d+ \d+ " + GRAIN + rb" " + GR
          rb"|need \d+ \d+ " + GRAIN + rb" \d+ (-|\d+) (-|\d+)")
 VERDICT = (rb"accepted \d+ \d+ \d+ " + GRAIN + rb"|rejected (Size|Scale)"
            rb"|rejected (NoArc|WrongTail|Value) \d+ \d+")
+BRACKET_VERDICT = (rb"enclosed \d+ \d+ \d+ " + GRAIN + rb" " + GRAIN + rb"|rejected Potential \d+"
+                   rb"|rejected (Size|Scale)|rejected (NoArc|WrongTail|Lower|Upper) \d+ \d+")
+READERS = ["graph", "hists", "script", "policy", "bracket", "names"]
+# What a refusal calls the text of a reader, and the replies to a text that is read.
+KINDS = {"bracket": "policy"}
+OBJECT = (rb'\{"arc":3,"budget":3,"dest":3,"from":"?.*"?,"kind":"answer",'
+          rb'"lower":750000000000000000,"origin":1,"to":"?.*"?,"upper":750000000000000000\}')
+REPLIES = {"policy": VERDICT, "bracket": VERDICT + rb"|" + BRACKET_VERDICT, "names": OBJECT}
 
 
 def mutated(draw, text):
@@ -140,7 +158,8 @@ class Runner:
     def __init__(self, sota):
         self.sota = os.path.abspath(sota)
         self.folder = tempfile.TemporaryDirectory()
-        for name, data in [("graph", GRAPH), ("hists", HISTS), ("policy", PLAN)]:
+        for name, data in [("graph", GRAPH), ("hists", HISTS), ("policy", PLAN),
+                           ("asked", b"ask 1 3 3\n")]:
             self.write(name, data)
         self.spawner = None
         if shutil.which("cc"):
@@ -181,7 +200,7 @@ class Runner:
 def is_place_in(reader, place, text):
     """Whether a place that a fault has can be one of the text: an offset, a line, a record or an
     arc, or a number that stands in it."""
-    return place <= len(text) + 1 or str(place).encode() in text or reader == "policy"
+    return place <= len(text) + 1 or str(place).encode() in text or reader in REPLIES
 
 
 def fault_of(reader, status, out, message, text):
@@ -192,11 +211,12 @@ def fault_of(reader, status, out, message, text):
         found = re.fullmatch(rb"refused (\w+) (\w+) (\d+)\n", out)
         # Without histograms a graph's weight of 0 is refused where it is taken for a time.
         of_weights = reader == "graph" and found and found[1] + found[2] == b"histsZeroTime"
-        of_reader = found and found[1].decode() == reader and re.fullmatch(CAUSES[reader], found[2])
+        kind = KINDS.get(reader, reader)
+        of_reader = found and found[1].decode() == kind and re.fullmatch(CAUSES[kind], found[2])
         if not of_reader and not of_weights:
             return "a refusal that is none of its reader"
         return None if is_place_in(reader, int(found[3]), text) else "a place outside the text"
-    reply = VERDICT if reader == "policy" else ANSWER + rb"|refused 1 (" + LINE_CAUSES + rb")"
+    reply = REPLIES.get(reader, ANSWER + rb"|refused 1 (" + LINE_CAUSES + rb")")
     if status not in (0, 1) or not re.fullmatch(rb"(" + reply + rb")\n", out):
         return "an answer that is none"
     return None
@@ -206,10 +226,13 @@ def fuzz_files(reader, rounds, seed, sota):
     """Rounds of one reader, many in a run of the spawner. Answers the first wrong one, or None."""
     draw = random.Random(f"{reader} {seed}")
     runner = Runner(sota)
-    text = {"graph": GRAPH, "hists": HISTS, "policy": PLAN}[reader]
+    text = {"graph": GRAPH, "hists": HISTS, "policy": PLAN, "bracket": BRACKET,
+            "names": NAMES}[reader]
     words = {"graph": ["ask", "@", "-", "1", "3", "3"],
              "hists": ["ask", "graph", "@", "1", "3", "3"],
-             "policy": ["check", "graph", "hists", "@"]}[reader]
+             "policy": ["check", "graph", "hists", "@"],
+             "bracket": ["check", "graph", "hists", "@"],
+             "names": ["report", "graph", "hists", "@", "asked"]}[reader]
     done = 0
     while done < rounds:
         texts = [mutated(draw, text) for _ in range(min(1000, rounds - done))]
@@ -229,8 +252,8 @@ def fuzz_script(rounds, seed, sota):
     while left > 0:
         lines = [mutated(draw, draw.choice(LINES)).replace(b"\n", b" ")
                  for _ in range(min(left, 50_000))]
-        # A mutated policy line may store a file of any name.
-        lines = [line for line in lines if not re.match(rb"[ \t]*policy[ \t]", line)]
+        # A mutated line that stores may do so under any name.
+        lines = [line for line in lines if not re.match(rb"[ \t]*(policy|bracket)[ \t]", line)]
         runner.write("script", b"\n".join(lines) + b"\n")
         status, out, message = runner.run(["run", "graph", "hists", "script"])
         wanted = rb"(?:" + REPLY + rb"|refused (?P<line>\d+) (" + LINE_CAUSES + rb"))"
@@ -259,11 +282,11 @@ def main():
     reader = argparse.ArgumentParser(description=__doc__.splitlines()[0])
     reader.add_argument("--sota", default=SOTA)
     reader.add_argument("--rounds", type=int, default=2000)
-    reader.add_argument("--reader", choices=["graph", "hists", "script", "policy"], action="append")
+    reader.add_argument("--reader", choices=READERS, action="append")
     reader.add_argument("--seed", type=int, default=1)
     reader.add_argument("--jobs", type=int, default=1)
     words = reader.parse_args()
-    readers = words.reader or ["graph", "hists", "script", "policy"]
+    readers = words.reader or READERS
     tasks = [(name, -(-words.rounds // words.jobs), words.seed * 1000 + job, words.sota)
              for name in readers for job in range(words.jobs)]
     with multiprocessing.Pool(words.jobs) as pool:
