@@ -58,6 +58,12 @@ accepted_all : (found : Option AskFault) (given plan : Plan) (more : ℕ)
 accepted_all None given plan more e = refl
 accepted_all (Some fault) given plan more e = absurd (cc)
 
+-- an ask with a plan is not refused
+pub not_refused : (fault : Option AskFault) (plan made : Plan) → unless_fault fault plan ≡ Ok made
+    → fault ≡ None
+not_refused (Some fault) plan made e = cc
+not_refused None plan made e = refl
+
 -- and one that is not refused pushes what it is said to
 pub shown_all : (net : Net) (ask : Ask) (plan : Plan) (result : Result Status Stop)
     (old new more : ℕ) → plan_result net ask ≡ Ok plan → new ≡ old + more

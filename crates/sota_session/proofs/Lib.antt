@@ -5,6 +5,7 @@ mod Growing
 mod Started
 mod Cutting
 mod Results
+mod Ticking
 mod Accepted
 mod Bracketing
 mod BracketPlanned

@@ -6,4 +6,5 @@ pub mod Plans
 pub mod Brackets
 pub mod Rows
 pub mod Cuts
+pub mod Roads
 pub mod Worked

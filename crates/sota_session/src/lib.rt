@@ -12,6 +12,7 @@ pub mod laws;
 mod long_tests;
 mod plan;
 mod policy;
+mod roads;
 mod session;
 #[cfg(test)]
 mod tests;

@@ -1,12 +1,14 @@
 // What an ask adds to the tables: the entries of its region that are missing.
-ghost use Rattle.std.specs.Prelude.{ℕ, ◌≡◌, ◌+◌, ◌*◌, ◌≤◌, ◌⊎◌, None, Err, IfOk, OnErr, OnOk};
+ghost use Rattle.std.specs.Prelude.{ℕ, ◌≡◌, ◌+◌, ◌*◌, ◌≤◌, ◌⊎◌, None, Err};
+ghost use Rattle.std.specs.Prelude.{IfOk, IfErr, OnErr, OnOk};
 ghost use Rattle.sota_units.specs.Limits.{BUDGET_LIMIT};
-ghost use Rattle.sota_units.specs.Memory.{Unless};
+ghost use Rattle.sota_units.specs.Memory.{IsFault, Unless};
 ghost use Rattle.sota_network.specs.Network.{IsNet, IsNode};
 ghost use Rattle.sota_kept.specs.States.{after_ask, missing, prepared_state};
 ghost use Rattle.sota_kept.specs.TableLists.{IsKept, IsSettled, state_of};
-ghost use Rattle.sota_bounds.specs.Faults.{TABLE_LIMIT, BROAD_LIMIT};
-ghost use Rattle.sota_bounds.specs.Regions.{IsRegion};
+ghost use Rattle.sota_bounds.specs.Faults.{TABLE_LIMIT, BROAD_LIMIT, region_fault};
+ghost use Rattle.sota_bounds.specs.Faults as bounds;
+ghost use Rattle.sota_bounds.specs.Regions.{AreLeastTo, IsRegion};
 ghost use Rattle.sota_tables.specs.Views.{lists_of};
 ghost use Rattle.sota_session.specs.Asks.{range_fault, size_fault, IsInRange};
 ghost use Rattle.sota_session.specs.Answers.{is_of_range, is_of_size, is_shortage};
@@ -16,7 +18,8 @@ ghost use Rattle.sota_session.specs.State.{IsLeft, pushes_for, state_after};
 ghost use Rattle.sota_session.specs.declared.ask.AskFault.TheVariants as asks;
 
 use crate::ask::{Ask, AskFault};
-use sota_bounds::{AskRegion, check_range, region};
+use crate::roads::Roads;
+use sota_bounds::{AskRegion, RegionFault, check_range, least_to, needs_by_least};
 use sota_kept::kept::{needs_are_met, settled_entries};
 use sota_network::Network;
 use sota_network::laws::{grid_recurs, lists_by_number};
@@ -24,7 +27,7 @@ use sota_online::BlockSummer;
 use sota_plan::{Run, extend, prepare};
 use sota_tables::Tables;
 use sota_tables::laws::views_are_lists;
-use sota_units::{NoMemory, Steps};
+use sota_units::{Items, NoMemory, Steps};
 use std::alloc::Global;
 use std::sync::ledger::Ledger;
 
@@ -34,39 +37,70 @@ type Sums = BlockSummer;
 /// Plans for an ask: its region, of which no entry is missing in the tables afterwards.
 pub(crate) fn plan<M: Ledger, P: Ledger>(
     alloc: Global,
-    network: &Network,
+    roads: &mut Roads,
     tables: &mut Tables,
     ask: &Ask,
     products: &mut Steps<M>,
     pushes: &mut Steps<P>,
 ) -> Result<AskRegion, AskFault>
-    requires kept { IsKept (lists_of tables.old) network.now }
-    ensures range { refusal_of is_of_range result ≡ range_fault network.now ask.now }
-    ensures size { range_fault network.now ask.now ≡ None
+    requires kept { IsKept (lists_of tables.old) roads.old }
+    ensures range { refusal_of is_of_range result ≡ range_fault roads.old ask.now }
+    ensures size { range_fault roads.old ask.now ≡ None
         → Unless (is_refused is_shortage result)
-        (refusal_of is_of_size result ≡ size_fault network.now ask.now) }
-    ensures memory { result ≡ Err asks.NoMemory → IsInRange network.now ask.now }
-    ensures in_range { OnOk result (IsInRange network.now ask.now) }
+        (refusal_of is_of_size result ≡ size_fault roads.old ask.now) }
+    ensures memory { result ≡ Err asks.NoMemory → IsInRange roads.old ask.now }
+    ensures in_range { OnOk result (IsInRange roads.old ask.now) }
     ensures asked { IfOk result (λ made. (made.origin ≡ ask.now.origin)
         × (made.dest ≡ ask.now.dest) × (made.budget ≡ ask.now.budget)) }
-    ensures planned { IfOk result (λ made. IsPlanned made tables.new network.now) }
-    ensures settled { OnOk result (IsSettled (lists_of tables.new) network.now) }
+    ensures planned { IfOk result (λ made. IsPlanned made tables.new roads.old) }
+    ensures settled { OnOk result (IsSettled (lists_of tables.new) roads.old) }
     ensures state { OnOk result (state_of (lists_of tables.new)
-        ≡ state_after network.now ask.now (state_of (lists_of tables.old))) }
+        ≡ state_after roads.old ask.now (state_of (lists_of tables.old))) }
     ensures count { OnOk result (pushes.new ≡ pushes.old
-        + pushes_for network.now ask.now (state_of (lists_of tables.old))) }
-    ensures kept { IsKept (lists_of tables.new) network.now }
+        + pushes_for roads.old ask.now (state_of (lists_of tables.old))) }
+    ensures kept { IsKept (lists_of tables.new) roads.old }
     ensures no_push { OnErr result (pushes.new ≡ pushes.old) }
     ensures unchanged { OnErr result (Unless (is_refused is_shortage result)
         (lists_of tables.new ≡ lists_of tables.old)) }
     ensures left { OnErr result
-        (IsLeft network.now ask.now (lists_of tables.old) (lists_of tables.new)) }
-    ensures valid { IsNet network.now }
+        (IsLeft roads.old ask.now (lists_of tables.old) (lists_of tables.new)) }
+    ensures least { IfOk result (λ made. AreLeastTo roads.old ask.now.dest made.least) }
+    ensures same { roads.new ≡ roads.old }
+    ensures valid { IsNet roads.old }
 {
-    check_range(network, ask.origin, ask.dest, ask.budget)?;
-    let region = region(alloc, network, ask.origin, ask.dest, ask.budget)?;
-    grow(alloc, network, tables, &region, products, pushes)?;
+    check_range(roads.network(), ask.origin, ask.dest, ask.budget)?;
+    let region = region_of(alloc, roads, ask)?;
+    grow(alloc, roads.network(), tables, &region, products, pushes)?;
     Ok(region)
+}
+
+/// The region of an ask, by the least times that are kept where they are to its destination.
+fn region_of(alloc: Global, roads: &mut Roads, ask: &Ask) -> Result<AskRegion, RegionFault>
+    requires { IsInRange roads.old ask.now }
+    ensures made { IfOk result (λ made.
+        IsRegion made roads.old ask.now.origin ask.now.dest ask.now.budget) }
+    ensures least { IfOk result (λ made. AreLeastTo roads.old ask.now.dest made.least) }
+    ensures within { IfOk result (λ made.
+        (made.table_cells ≤ TABLE_LIMIT) × (made.broad_cells ≤ BROAD_LIMIT)) }
+    ensures ok { OnOk result
+        (region_fault roads.old ask.now.origin ask.now.dest ask.now.budget ≡ None) }
+    ensures fault { IfErr result (λ fault. IsFault bounds.is_shortage
+        (region_fault roads.old ask.now.origin ask.now.dest ask.now.budget) fault) }
+    ensures same { roads.new ≡ roads.old }
+{
+    let least = match roads.take_times(ask.dest) {
+        Some(times) => times,
+        None => Items::new(least_to(alloc, roads.network(), ask.dest)?),
+    };
+    let network = roads.network();
+    let times = least.as_slice();
+    match needs_by_least(alloc, network, times, ask.origin, ask.dest, ask.budget) {
+        Ok(needs) => Ok(needs.with_least(least)),
+        Err(fault) => {
+            roads.keep_times(ask.dest, least);
+            Err(fault)
+        }
+    }
 }
 
 /// Adds the entries of a region that are missing.

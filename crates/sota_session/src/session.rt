@@ -27,6 +27,7 @@ use crate::cut::cut_all;
 use crate::edit::EditFault;
 use crate::plan::plan;
 use crate::policy::policy_of;
+use crate::roads::Roads;
 use sota_bounds::affected;
 use sota_hist::Histogram;
 use sota_kept::kept::tables_stay_right;
@@ -43,10 +44,10 @@ use std::sync::ledger::Ledger;
 
 /// A network that is asked and edited, seen as the network that it is now and what is kept of its
 /// grid. What an ask has planned stays for the next one to the same destination, as far as no edit
-/// can have changed it.
+/// can have changed it, and so do the least times to the destination.
 #[derive(Drop)]
 pub struct Session {
-    network: Network,
+    roads: Roads,
     tables: Tables,
     alloc: Global,
 }
@@ -59,11 +60,11 @@ impl Model for Session {
     ghost Value = { SessionState };
 
     ghost view = { λ session. record {
-      network = session.network;
+      network = session.roads;
       tables = lists_of session.tables;
     } };
 
-    ghost invariant = { λ session. IsKept (lists_of session.tables) session.network };
+    ghost invariant = { λ session. IsKept (lists_of session.tables) session.roads };
 }
 
 impl Session {
@@ -76,7 +77,7 @@ impl Session {
         tables_stay_kept();
         let tables = Tables::new(alloc, network.nodes())?;
         Ok(Session {
-            network,
+            roads: Roads::new(network),
             tables,
             alloc,
         })
@@ -87,7 +88,7 @@ impl Session {
         ensures value { result.now ≡ self.now.network }
         ensures valid { IsKept self.now.tables self.now.network }
     {
-        &self.network
+        self.roads.network()
     }
 
     /// The destination for which entries are kept. None exactly where there is none yet. An ask or
@@ -149,14 +150,15 @@ impl Session {
         ensures right { IsKept self.new.tables self.new.network }
         ensures valid { IsNet self.new.network }
     {
-        plan(
+        let region = plan(
             self.alloc,
-            &self.network,
+            &mut self.roads,
             &mut self.tables,
             &ask,
             products,
             pushes,
         )?;
+        self.roads.keep_times(ask.dest, region.least);
         Ok(Answer {
             lower: self.tables.lower(ask.origin, ask.budget),
             upper: self.tables.upper(ask.origin, ask.budget),
@@ -199,13 +201,15 @@ impl Session {
     {
         let region = plan(
             self.alloc,
-            &self.network,
+            &mut self.roads,
             &mut self.tables,
             &ask,
             products,
             pushes,
         )?;
-        let table = policy_of(self.alloc, &self.network, &ask, &region, &self.tables)?;
+        let network = self.roads.network();
+        let table = policy_of(self.alloc, network, &ask, &region, &self.tables)?;
+        self.roads.keep_times(ask.dest, region.least);
         Ok(table)
     }
 
@@ -248,13 +252,15 @@ impl Session {
     {
         let region = plan(
             self.alloc,
-            &self.network,
+            &mut self.roads,
             &mut self.tables,
             &ask,
             products,
             pushes,
         )?;
-        let table = bracket_of(self.alloc, &self.network, &ask, &region, &self.tables)?;
+        let network = self.roads.network();
+        let table = bracket_of(self.alloc, network, &ask, &region, &self.tables)?;
+        self.roads.keep_times(ask.dest, region.least);
         Ok(table)
     }
 
@@ -274,7 +280,7 @@ impl Session {
         tables_stay_right();
         views_are_lists();
         let cuts = self.cuts(arc, &time)?;
-        let _ = self.network.replace(arc, time);
+        let _ = self.roads.replace(arc, time);
         if let Some(budgets) = cuts {
             cut_all(&mut self.tables, &budgets);
         }
@@ -290,12 +296,13 @@ impl Session {
         ensures valid { IsNet self.now.network }
     {
         edits_affect();
-        let Some(edited) = self.network.arc(arc) else {
+        let network = self.roads.network();
+        let Some(edited) = network.arc(arc) else {
             return Err(EditFault::NoArc);
         };
         match (self.tables.dest(), edited.time.first_difference(time)) {
             (Some(dest), Some(first)) => {
-                let budgets = affected(self.alloc, &self.network, dest, arc, first)?;
+                let budgets = affected(self.alloc, network, dest, arc, first)?;
                 Ok(Some(budgets))
             }
             _ => Ok(None),

@@ -10,7 +10,7 @@ use Rattle.sota_app.specs.Script.{session_ask}
 use Rattle.sota_app.specs.Shown.{plan_result}
 use Rattle.sota_app.specs.Outcome.{shown}
 use Rattle.sota_app.specs.Work.{region_pushes}
-use Rattle.sota_app.proofs.Worked.{shown_all, shown_first, refused_count}
+use Rattle.sota_app.proofs.Worked.{not_refused, shown_all, shown_first, refused_count}
 use Rattle.sota_app.specs.declared.stop.Stop.TheVariants as stops
 use Rattle.sota_app.proofs.Made.{nothing_made}
 use Rattle.sota_app.proofs.ShownPlan.{refused_ends, refused_holds}
@@ -39,7 +39,8 @@ returns-in-Ok-clause-count g c =
     let net = c.args.network in
     let ask = session_ask c.args.ask in
     let answers : plan_result net ask ≡ Ok c.in-Ok.plan = search rules in
-    let accepted : ask_fault net ask ≡ None = search rules in
+    let accepted : ask_fault net ask ≡ None =
+    not_refused (ask_fault net ask) _ c.in-Ok.plan answers in
     let valid : IsNet net =
     subst IsNet (c.in-Ok.ensures.kept ∙ c.in_ok-session.ensures.network) c.in-Ok.ensures.valid in
     let made = shown_first net c.in_ok-session.session.network ask c.session_ask-ask.result

@@ -8,12 +8,12 @@ use Rattle.sota_session.proofs.session.Session.cuts.Goals as goal
 
 pub returns-in_ok-budgets-in-Some-Some-clause-cuts : goal.returns-in_ok-budgets-in-Some-Some-clause-cuts
 returns-in_ok-budgets-in-Some-Some-clause-cuts c =
-    let net : Net = c.self.inside.network in
+    let net : Net = c.network-network.result.now in
     let edited : Arc = c.in-Some.edited.now in
     let budgets = c.in_ok-budgets-in-Some-Some.budgets.items in
     let found : arc_at net c.args.arc ≡ Some edited = sym c.in-Some.ensures.value in
     subst (λ (s : SessionState). IsCutFor s.network s.tables.dest c.args.arc c.args.time.now (Some budgets)) c.self.view_is
-    (record {
+    (subst (λ (n : Net). IsCutFor n c.self.inside.tables.dest c.args.arc c.args.time.now (Some budgets)) c.network-network.ensures (record {
       edited = edited;
       found = found;
       cuts_are = record {
@@ -28,4 +28,4 @@ returns-in_ok-budgets-in-Some-Some-clause-cuts c =
             ap (up_to END_LIMIT) affected.sum
             ∙ sym (c.edits_affect.ensures.up_to_limit net c.in-Some-Some.dest c.in-Some-Some.first i edited affected.to affected.onward c.arc.ensures.valid affected.least_to_tail affected.least_onward);
       };
-    })
+    }))
