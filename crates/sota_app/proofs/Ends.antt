@@ -18,7 +18,10 @@ use Rattle.sota_session.specs.declared.ask.Ask.{Ask}
 use Rattle.sota_session.specs.declared.ask.AskFault.{AskFault}
 use Rattle.sota_app.specs.InputFaults.{fault_line}
 use Rattle.sota_app.specs.Outcome.{Outcome, outcome_of, Job, play, judge, judge_bracket, replay, show}
-use Rattle.sota_app.specs.Outcome.{Work, work_of, work_outcome}
+use Rattle.sota_app.specs.Outcome.{timed, Work, work_of, work_outcome}
+use Rattle.sota_app.specs.TimedLines.{planned, planned_status}
+use Rattle.sota_period.specs.declared.plan.TimedAnswer.{TimedAnswer}
+use Rattle.sota_period.specs.declared.fault.TimedFault.{TimedFault}
 use Rattle.sota_app.specs.Outcome.{plan_outcome, job_outcome, refused_words}
 use Rattle.sota_app.specs.Causes.{Cause, Ended, Delivered, Known, Took, UnreadInput, Stands}
 use Rattle.sota_app.specs.Causes.{CanMiss, status_of}
@@ -138,6 +141,12 @@ shown_cause net ask (Ok plan) request d e s t stands =
     verdict_cause (rejection net plan.table) request d e s t stands
 shown_cause net ask (Err fault) request d e s t stands = stands
 
+planned_cause : (made : Result TimedAnswer TimedFault) (request : Request) (d e : DeskState)
+    (s t : SinkState) → Stands (planned_status made) (Some request) d e s t
+    → Cause (planned_status made) (Some request) d e s t
+planned_cause (Ok answer) request d e s t stands = stands
+planned_cause (Err fault) request d e s t stands = stands
+
 done_cause : (net : Net) (job : Job) (request : Request) (d e : DeskState) (s t : SinkState)
     → Stands (job_outcome net job).status (Some request) d e s t
     → Cause (job_outcome net job).status (Some request) d e s t
@@ -151,6 +160,8 @@ done_cause net (replay table trips) request d e s t stands =
     verdict_cause (rejection net table) request d e s t stands
 done_cause net (show ask) request d e s t stands =
     shown_cause net (session_ask ask) (plan_result net (session_ask ask)) request d e s t stands
+done_cause net (timed periods asked) request d e s t stands =
+    planned_cause (planned periods asked) request d e s t stands
 
 ok_cause : (work : Work) (request : Request) (result : Result Status Stop) (d e : DeskState)
     (s t : SinkState) → Known d (λ files. work_of request files ≡ Ok work)

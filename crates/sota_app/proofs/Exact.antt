@@ -1,5 +1,5 @@
 -- Where nothing fails, the cause of a status is the whole outcome.
-use Rattle.std.proofs.Common.{◌≡◌, ◌≢◌, ℕ, List, false, Option, Some, None, Result, Ok, Err, IsOk}
+use Rattle.std.proofs.Common.{◌≡◌, ◌≢◌, ℕ, List, [], ◌∷◌, ◌++◌, false, Option, Some, None, Result, Ok, Err, IsOk}
 use Rattle.std.proofs.Common.{refl, ap, subst, inl, inr}
 use Rattle.std.specs.Option.{IsSomeAnd}
 use Rattle.sota_units.specs.Memory.{◌>>=◌}
@@ -7,12 +7,13 @@ use Rattle.sota_edge.specs.Desk.{Files, DeskState}
 use Rattle.sota_edge.specs.Sink.{SinkState, Wrote}
 use Rattle.sota_edge.specs.Counts.{Rose}
 use Rattle.sota_network.specs.Network.{Net}
-use Rattle.sota_app.specs.Requests.{FileRequest, ReportRequest}
+use Rattle.sota_app.specs.Requests.{FileRequest, ReportRequest, TimedRequest}
 use Rattle.sota_app.specs.Outcome.{outcome_of, no_input, refused_words, graph_of, is_dash}
-use Rattle.sota_app.specs.Outcome.{with_hists, names_of, Work}
+use Rattle.sota_app.specs.Outcome.{with_hists, names_of, periods_after, all_periods, Work}
 use Rattle.sota_app.specs.Outcome.{network_of, script_of, table_of, any_table_of, work_of, work_outcome}
 use Rattle.sota_app.specs.Causes.{Cause, Delivered, NoFault, Unread, UnreadNetwork, UnreadLast}
-use Rattle.sota_app.specs.Causes.{UnreadReport, UnreadInput}
+use Rattle.sota_app.specs.Causes.{UnreadReport, UnreadPeriods, UnreadTimed, UnreadInput}
+use Rattle.sota_dimacs.specs.declared.graph.RawGraph.{RawGraph}
 use Rattle.sota_app.specs.declared.input.NoInput.{NoInput}
 use Rattle.sota_app.specs.declared.input.NoInput.TheVariants as ends
 use Rattle.sota_app.specs.declared.words.Request.{Request}
@@ -102,6 +103,54 @@ unread_report words files d e tells calm h = elim h [
   ]
 ]
 
+-- what was accepted
+record IsRead {A : Type 0} (read : Result A NoInput) : Type 0 where
+  value : A
+  is : read ≡ Ok value
+
+is_read : {A : Type 0} (read : Result A NoInput) → IsOk read → IsRead read
+is_read (Ok value) ok = record { value = value; is = refl }
+is_read (Err end) ok = absurd (cc)
+
+ok_next : {A B : Type 0} (read : Result A NoInput) (value : A) (next : A → Result B NoInput)
+    → read ≡ Ok value → IsOk (read >>= next) → IsOk (next value)
+ok_next read value next is ok = let at = rw is at ok in at
+
+unread_periods : (name : List ℕ) (graph : RawGraph) (ps : List (ℕ × List ℕ))
+    (known : List (ℕ × Net)) (files : Files) (d e : DeskState) → d.holds ≡ Some files
+    → (Rose d.load_faults e.load_faults → ⊥) → graph_of name files ≡ Ok graph
+    → UnreadPeriods (network_of name) ps d e
+    → periods_after graph files known ps ≡ Err ends.Unread
+unread_periods name graph [] known files d e tells calm is h = absurd h
+unread_periods name graph (p ∷ ps) known files d e tells calm is h = elim h [
+  | inl hists ↦
+      let gone : files p.1 ≡ None = unread_gone p.1 files d e tells calm hists.1 in
+      let word : is_dash p.1 ≡ false = hists.0 in
+      rw word (rw gone refl)
+  | inr after ↦
+      err_after (with_hists p.1 files graph) _ ends.Unread
+      (ok_next (graph_of name files) graph (with_hists p.1 files) is
+      (at_files d.holds files _ tells after.0))
+      (λ net. unread_periods name graph ps (known ++ (p.0, net) ∷ []) files d e tells calm is
+      after.1)
+]
+
+unread_timed : (words : TimedRequest) (files : Files) (d e : DeskState) → d.holds ≡ Some files
+    → (Rose d.load_faults e.load_faults → ⊥) → UnreadTimed words d e
+    → work_of (requests.Timed words) files ≡ Err ends.Unread
+unread_timed words files d e tells calm h = elim h [
+  | inl graph ↦
+      let gone : files words.graph ≡ None =
+      unread_gone words.graph files d e tells calm graph in rw gone refl
+  | inr after ↦
+      let read : IsRead (graph_of words.graph files) =
+      is_read (graph_of words.graph files) (at_files d.holds files _ tells after.0) in
+      let none : periods_after read.value files [] (all_periods words) ≡ Err ends.Unread =
+      unread_periods words.graph read.value (all_periods words) [] files d e tells calm read.is
+      after.1 in
+      rw read.is (rw none refl)
+]
+
 unread_work : (request : Request) (files : Files) (d e : DeskState) → d.holds ≡ Some files
     → (Rose d.load_faults e.load_faults → ⊥) → UnreadInput request d e
     → work_of request files ≡ Err ends.Unread
@@ -119,6 +168,8 @@ unread_work (requests.Replay words) files d e tells calm h =
 unread_work (requests.Report words) files d e tells calm h =
     unread_report words files d e tells calm h
 unread_work (requests.Make make) files d e tells calm h = absurd h
+unread_work (requests.Timed words) files d e tells calm h =
+    unread_timed words files d e tells calm h
 
 unread_outcome : (o : Option Request) (files : Files) (d e : DeskState) (s t : SinkState)
     → d.holds ≡ Some files → NoFault d e s t → t ≡ s → e.holds ≡ d.holds

@@ -21,3 +21,6 @@ pub mod MeantBounds
 pub mod Prefixes
 pub mod TextWords
 pub mod Resolved
+pub mod PeriodRoads
+pub mod ReadPeriods
+pub mod TimedDone

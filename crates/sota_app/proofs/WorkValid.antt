@@ -1,6 +1,6 @@
 -- The network that files mean is one.
-use Rattle.std.proofs.Common.{◌≡◌, ℕ, List, Bool, true, false, Result, Ok, Err, if◌then◌else◌}
-use Rattle.std.proofs.Common.{refl, ap, subst}
+use Rattle.std.proofs.Common.{◌≡◌, ℕ, List, [], ◌∷◌, ◌++◌, Bool, true, false, Option, Some, None}
+use Rattle.std.proofs.Common.{Result, Ok, Err, if◌then◌else◌, refl, sym, ◌∙◌, ap, subst}
 use Rattle.sota_units.specs.Memory.{◌>>=◌}
 use Rattle.sota_edge.specs.Desk.{Files}
 use Rattle.sota_dimacs.specs.Graph.{graph_text, IsGraph}
@@ -14,7 +14,10 @@ use Rattle.sota_app.specs.Requests.{FileRequest}
 use Rattle.sota_app.specs.Words.{IsSized}
 use Rattle.sota_app.specs.Script.{script_lines}
 use Rattle.sota_app.specs.Outcome.{read_hists, is_dash, with_hists, network_of, script_of}
-use Rattle.sota_app.specs.Outcome.{names_of}
+use Rattle.sota_app.specs.Outcome.{names_of, periods_after, periods_of, unless_differs, one_scale}
+use Rattle.sota_app.specs.Outcome.{all_periods}
+use Rattle.sota_app.specs.Requests.{TimedRequest}
+use Rattle.sota_period.specs.Periods.{first_net, scale_differs}
 use Rattle.sota_app.specs.Outcome.{table_of, any_table_of, Job, play, judge_any, replay}
 use Rattle.sota_app.specs.Outcome.{Work, work_of}
 use Rattle.sota_app.specs.declared.voice.Voice.TheVariants.{Plain}
@@ -98,6 +101,42 @@ named_valid graphs texts weights names files last job work e =
     subst IsNet (net_is _ work k.next_is)
     (network_valid graphs texts weights names.graph names.hists files h.first h.first_is)
 
+-- the first period stays the first
+kept_first : (graph : RawGraph) (files : Files) (p : ℕ × Net) (known : List (ℕ × Net))
+    (ps : List (ℕ × List ℕ)) (periods : List (ℕ × Net))
+    → periods_after graph files (p ∷ known) ps ≡ Ok periods → first_net periods ≡ p.1
+kept_first graph files p known [] periods e =
+    let same : p ∷ known ≡ periods = cc in ap first_net (sym same)
+kept_first graph files p known (q ∷ ps) periods e =
+    let h = followed (with_hists q.1 files graph) _ periods e in
+    kept_first graph files p (known ++ (q.0, h.first) ∷ []) ps periods h.next_is
+
+was_joined : (differs : Option ℕ) (given periods : List (ℕ × Net))
+    → unless_differs differs given ≡ Ok periods → given ≡ periods
+was_joined None given periods e = cc
+was_joined (Some place) given periods e = absurd (cc)
+
+network_is : (graph hists : List ℕ) (files : Files) (raw : RawGraph) (net : Net)
+    → graph_of graph files ≡ Ok raw → with_hists hists files raw ≡ Ok net
+    → network_of graph hists files ≡ Ok net
+network_is graph hists files raw net first second = rw first second
+
+-- the network of the first period
+first_valid : Graphs → Texts → Weights → (words : TimedRequest) (files : Files)
+    (periods : List (ℕ × Net)) → periods_of words files ≡ Ok periods → IsNet (first_net periods)
+first_valid graphs texts weights words files periods e =
+    let g = followed (graph_of words.graph files) _ periods e in
+    let h = followed (periods_after g.first files [] (all_periods words)) one_scale periods
+    g.next_is in
+    let k = followed (with_hists words.hists files g.first) _ h.first h.first_is in
+    let kept : first_net h.first ≡ k.first =
+    kept_first g.first files (0, k.first) [] words.later h.first k.next_is in
+    let joined : h.first ≡ periods =
+    was_joined (scale_differs h.first) h.first periods h.next_is in
+    subst IsNet (sym kept ∙ ap first_net joined)
+    (network_valid graphs texts weights words.graph words.hists files k.first
+    (network_is words.graph words.hists files g.first k.first g.first_is k.first_is))
+
 pub work_valid : Graphs → Texts → Weights → Makes → (request : Request) → IsSized request
     → (files : Files) (work : Work) → work_of request files ≡ Ok work → IsNet work.net
 work_valid graphs texts weights makes (requests.Ask ask) sized files work e =
@@ -120,3 +159,7 @@ work_valid graphs texts weights makes (requests.Report words) sized files work e
     (network_valid graphs texts weights words.graph words.hists files h.first h.first_is)
 work_valid graphs texts weights makes (requests.Make make) sized files work e =
     subst IsNet (net_is _ work e) (makes make.seed make.nodes make.arcs make.span sized)
+work_valid graphs texts weights makes (requests.Timed words) sized files work e =
+    let h = followed (periods_of words files) _ work e in
+    subst IsNet (net_is _ work h.next_is)
+    (first_valid graphs texts weights words files h.first h.first_is)

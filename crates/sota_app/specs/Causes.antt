@@ -1,5 +1,5 @@
 -- What a status means: its cause, and what it says of what was written and stored.
-use Rattle.std.specs.Prelude.{◌≡◌, ◌⊎◌, ℕ, ◌+◌, List, false, Option, Some, None, IfSome}
+use Rattle.std.specs.Prelude.{◌≡◌, ◌⊎◌, ℕ, ◌+◌, List, [], ◌∷◌, false, Option, Some, None, IfSome}
 use Rattle.std.specs.Prelude.{Result, Ok, Err, IsOk}
 use Rattle.std.specs.Option.{IsSomeAnd}
 use Rattle.sota_edge.specs.Counts.{Rose, RoseBy}
@@ -8,17 +8,18 @@ use Rattle.sota_edge.specs.Sink.{SinkState, Wrote}
 use Rattle.sota_dimacs.specs.Words as graphs
 use Rattle.sota_histcsv.specs.Words as hists
 use Rattle.sota_polfile.specs.Words as policies
+use Rattle.sota_network.specs.Network.{Net}
 use Rattle.sota_report.specs.Names.{Place}
 use Rattle.sota_report.specs.Words as names
 use Rattle.sota_units.specs.Memory.{◌>>=◌}
 use Rattle.sota_app.specs.Outputs.{Made, Begun, StoreMissed}
 use Rattle.sota_app.specs.Outcome.{Outcome, outcome_of, refused_words}
-use Rattle.sota_app.specs.Outcome.{graph_of, network_of, names_of, is_dash}
-use Rattle.sota_app.specs.Requests.{FileRequest, ReportRequest}
+use Rattle.sota_app.specs.Outcome.{graph_of, network_of, names_of, is_dash, all_periods}
+use Rattle.sota_app.specs.Requests.{FileRequest, ReportRequest, TimedRequest}
 use Rattle.sota_app.specs.InputFaults.{fault_place, fault_line}
 use Rattle.sota_app.specs.declared.input.InputFault.{InputFault}
 use Rattle.sota_app.specs.declared.input.InputFault.TheVariants.{TooLong, Graph, Hists, Policy}
-use Rattle.sota_app.specs.declared.input.InputFault.TheVariants.{Names}
+use Rattle.sota_app.specs.declared.input.InputFault.TheVariants.{Names, ScaleDiffers}
 use Rattle.sota_app.specs.declared.input.NoInput.{NoInput}
 use Rattle.sota_app.specs.declared.words.Request.{Request}
 use Rattle.sota_app.specs.declared.words.Request.TheVariants as requests
@@ -70,6 +71,21 @@ UnreadReport words old new =
     ⊎ ((Accepted (network_of words.graph words.hists) old × Unread words.names old new)
     ⊎ (Accepted (places_for words) old × Unread words.script old new))
 
+-- a file of histograms of one of these periods, the networks of those before it being accepted
+abbrev pub UnreadPeriods : (List ℕ → Files → Result Net NoInput) → List (ℕ × List ℕ)
+    → DeskState → DeskState → Type 0
+UnreadPeriods network [] old new = ⊥
+UnreadPeriods network (p ∷ ps) old new =
+    UnreadHists p.1 old new
+    ⊎ (Accepted (network p.1) old × UnreadPeriods network ps old new)
+
+-- the graph, or a file of histograms of one of the periods after it
+abbrev pub UnreadTimed : TimedRequest → DeskState → DeskState → Type 0
+UnreadTimed words old new =
+    Unread words.graph old new
+    ⊎ (Accepted (graph_of words.graph) old
+    × UnreadPeriods (network_of words.graph) (all_periods words) old new)
+
 -- an input of the request
 abbrev pub UnreadInput : Request → DeskState → DeskState → Type 0
 UnreadInput (requests.Ask ask) old new = UnreadNetwork ask.graph ask.hists old new
@@ -78,6 +94,7 @@ UnreadInput (requests.Check check) old new = UnreadLast check old new
 UnreadInput (requests.Replay words) old new = UnreadLast words.names old new
 UnreadInput (requests.Report words) old new = UnreadReport words old new
 UnreadInput (requests.Make make) old new = ⊥
+UnreadInput (requests.Timed words) old new = UnreadTimed words old new
 
 -- a fault of what stands in a text; want of memory is none
 abbrev pub IsOfText : InputFault → Type 0
@@ -86,6 +103,7 @@ IsOfText (Graph fault) = graphs.is_shortage fault ≡ false
 IsOfText (Hists fault) = hists.is_shortage fault ≡ false
 IsOfText (Policy fault) = policies.is_shortage fault ≡ false
 IsOfText (Names fault) = names.is_shortage fault ≡ false
+IsOfText (ScaleDiffers place) = Unit {0}
 
 -- where an input is refused for its length, more than its limit was taken, which is the number in
 -- its line

@@ -10,7 +10,7 @@ use Rattle.sota_app.specs.declared.input.Input.{Input}
 use Rattle.sota_app.specs.declared.input.Input.TheVariants as inputs
 use Rattle.sota_app.specs.declared.input.InputFault.{InputFault}
 use Rattle.sota_app.specs.declared.input.InputFault.TheVariants.{TooLong, Graph, Hists, Policy}
-use Rattle.sota_app.specs.declared.input.InputFault.TheVariants.{Names}
+use Rattle.sota_app.specs.declared.input.InputFault.TheVariants.{Names, ScaleDiffers}
 
 abbrev pub input_word : Input → List ℕ
 input_word inputs.Graph = codes "graph"
@@ -35,6 +35,7 @@ fault_input (Graph fault) = inputs.Graph
 fault_input (Hists fault) = inputs.Hists
 fault_input (Policy fault) = inputs.Policy
 fault_input (Names fault) = inputs.Names
+fault_input (ScaleDiffers place) = inputs.Hists
 
 abbrev pub fault_word : InputFault → List ℕ
 fault_word (TooLong input) = codes "TooLong"
@@ -42,6 +43,7 @@ fault_word (Graph fault) = graphs.fault_word fault
 fault_word (Hists fault) = hists.fault_word fault
 fault_word (Policy fault) = policies.fault_word fault
 fault_word (Names fault) = names.fault_word fault
+fault_word (ScaleDiffers place) = codes "ScaleDiffers"
 
 -- the number that a fault carries: for an input that is too long it is the limit
 abbrev pub fault_place : InputFault → ℕ
@@ -50,6 +52,7 @@ fault_place (Graph fault) = graphs.fault_place fault
 fault_place (Hists fault) = hists.fault_place fault
 fault_place (Policy fault) = policies.fault_place fault
 fault_place (Names fault) = names.fault_place fault
+fault_place (ScaleDiffers place) = place
 
 abbrev pub fault_line : InputFault → List ℕ
 fault_line fault =

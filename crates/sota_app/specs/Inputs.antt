@@ -1,14 +1,19 @@
 -- How the reading of inputs ended.
-use Rattle.std.specs.Prelude.{◌≡◌, ◌≤◌, List, [], ◌∷◌, length, Result, Ok}
+use Rattle.std.specs.Prelude.{ℕ, ◌≡◌, ◌≤◌, List, [], ◌∷◌, ◌++◌, map, length, Result, Ok}
 use Rattle.std.specs.Prelude.{Err, IfOk}
 use Rattle.sota_units.specs.Limits.{TEXT_LIMIT}
 use Rattle.sota_edge.specs.Desk.{Files, DeskState}
 use Rattle.sota_edge.specs.Sink.{SinkState}
 use Rattle.sota_app.specs.Outputs.{LineEnds}
 use Rattle.sota_app.specs.InputFaults.{fault_line}
-use Rattle.sota_app.specs.Outcome.{Job, play, judge, judge_bracket, replay, show, Work}
+use Rattle.sota_app.specs.Outcome.{Job, play, judge, judge_bracket, replay, show, timed}
+use Rattle.sota_app.specs.Outcome.{Work}
 use Rattle.sota_network.specs.Network.{Net}
+use Rattle.sota_dimacs.specs.declared.graph.RawGraph.{RawGraph}
+use Rattle.sota_dimacs.specs.declared.graph.RawArc.{RawArc}
 use Rattle.sota_polfile.specs.Bracket.{IsBracket}
+use Rattle.sota_period.specs.Periods.{AreInOrder, ArePeriods, first_net}
+use Rattle.sota_period.specs.Periods as roads
 use Rattle.sota_app.specs.Shown.{HoldsUnlessRefused}
 use Rattle.sota_app.specs.Script.{ScriptLine, ask_on, session_ask, script_lines}
 use Rattle.sota_app.specs.Causes.{Known, Took, IsOfText}
@@ -18,6 +23,7 @@ use Rattle.sota_app.specs.declared.inputs.Source.TheVariants as sources
 use Rattle.sota_app.specs.declared.inputs.Job.{Job as TaskJob}
 use Rattle.sota_app.specs.declared.inputs.Job.TheVariants as jobs
 use Rattle.sota_app.specs.declared.inputs.Task.{Task}
+use Rattle.sota_app.specs.declared.inputs.Task.TheVariants as tasks
 use Rattle.sota_app.specs.declared.voice.Voice.{Voice}
 use Rattle.sota_app.specs.declared.input.NoInput.{NoInput}
 use Rattle.sota_app.specs.declared.input.NoInput.TheVariants as ends
@@ -42,7 +48,9 @@ job_of (jobs.Replay table trips) = replay table trips
 job_of (jobs.Show ask) = show ask
 
 abbrev pub task_work : Task → Work
-task_work task = record { net = task.network; job = job_of task.job }
+task_work (tasks.OnNetwork network job) = record { net = network; job = job_of job }
+task_work (tasks.OverPeriods periods asked) =
+    record { net = first_net periods; job = timed periods asked }
 
 -- a script is within its limit
 abbrev pub IsShort : Source → Type 0
@@ -55,6 +63,28 @@ IsShortJob (jobs.Judge table) = Unit {0}
 IsShortJob (jobs.JudgeBracket table) = Unit {0}
 IsShortJob (jobs.Replay table trips) = Unit {0}
 IsShortJob (jobs.Show ask) = Unit {0}
+
+-- a trip begins at tick 0 of the clock or later
+abbrev pub IsShortTask : Task → Type 0
+IsShortTask (tasks.OnNetwork network job) = IsShortJob job
+IsShortTask (tasks.OverPeriods periods asked) = asked.ask.budget ≤ asked.deadline
+
+-- ---- networks over the roads of a graph
+
+abbrev pub raw_ends : List RawArc → List (ℕ × ℕ)
+raw_ends arcs = map (λ arc. (arc.tail, arc.head)) arcs
+
+-- the nodes and the ends of all arcs are those of a graph
+pub record HasRoads (graph : RawGraph) (net : Net) : Type 0 where
+  pub nodes : net.nodes ≡ graph.nodes
+  pub ends : roads.ends net.arcs ≡ raw_ends graph.arcs
+
+-- with each network over these roads that starts there, the periods are in order
+abbrev pub CanFollow : RawGraph → List (ℕ × Net) → ℕ → Type 0
+CanFollow graph known start = (net : Net) → HasRoads graph net
+    → AreInOrder (known ++ (start, net) ∷ [])
+
+-- ---- how inputs were read
 
 -- nothing changed in the desk but what was taken
 pub record OnlyTook (old new : DeskState) : Type 0 where
@@ -104,10 +134,11 @@ IsWorked Done = Unit {0}
 IsWorked SomeRefused = Unit {0}
 IsWorked _ = ⊥
 
--- the policy of an ask that was planned holds, and a bracket that was read is one
+-- the policy of an ask that was planned holds, and a bracket or periods that were read are such
 abbrev pub JobHolds : Net → Job → Type 0
 JobHolds net (play voice lines) = Unit {0}
 JobHolds net (judge table) = Unit {0}
 JobHolds net (judge_bracket table) = IsBracket table
 JobHolds net (replay table trips) = Unit {0}
 JobHolds net (show ask) = HoldsUnlessRefused net (session_ask ask)
+JobHolds net (timed periods asked) = ArePeriods periods

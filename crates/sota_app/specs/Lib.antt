@@ -1,5 +1,6 @@
 pub mod Status
 pub mod Requests
+pub mod Later
 pub mod Words
 pub mod Work
 pub mod Outputs
@@ -7,6 +8,8 @@ pub mod Replies
 pub mod Script
 pub mod InputFaults
 pub mod Verdicts
+pub mod TimedLines
+pub mod TimedMeaning
 pub mod Shown
 pub mod Outcome
 pub mod Causes

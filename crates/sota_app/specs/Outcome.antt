@@ -19,8 +19,10 @@ use Rattle.sota_polfile.specs.declared.any.AnyTable.TheVariants.{One, Two}
 use Rattle.sota_polfile.specs.Faults.{policy_of}
 use Rattle.sota_check.specs.Rejected.{rejection}
 use Rattle.sota_check.specs.BracketRejected.{bracket_rejection}
+use Rattle.sota_period.specs.Periods.{first_net, scale_differs}
 use Rattle.sota_report.specs.Names.{Place, places_of}
 use Rattle.sota_app.specs.Words.{request_of}
+use Rattle.sota_app.specs.Requests.{TimedRequest}
 use Rattle.sota_app.specs.Outputs.{Output, only_line}
 use Rattle.sota_app.specs.Replies.{answer_line, refused_line, outputs_of, replies_status}
 use Rattle.sota_app.specs.Shown.{net_made, ask_made, made_line, plan_result}
@@ -30,6 +32,7 @@ use Rattle.sota_script.specs.declared.command.Ask3.{Ask3}
 use Rattle.sota_session.specs.declared.ask.Ask.{Ask}
 use Rattle.sota_session.specs.declared.ask.AskFault.{AskFault}
 use Rattle.sota_app.specs.Verdicts.{verdict_line, bracket_verdict_line, replay_line, verdict_status}
+use Rattle.sota_app.specs.TimedLines.{planned, planned_line, planned_status}
 use Rattle.sota_app.specs.Script.{ScriptLine, ask_on, session_ask, script_lines, replies_to}
 use Rattle.sota_app.specs.InputFaults.{input_limit, fault_line}
 use Rattle.sota_app.specs.declared.reply.Reply.{Reply}
@@ -42,6 +45,7 @@ use Rattle.sota_app.specs.declared.input.NoInput.TheVariants as ends
 use Rattle.sota_app.specs.declared.voice.Voice.{Voice}
 use Rattle.sota_app.specs.declared.voice.Voice.TheVariants as voices
 use Rattle.sota_app.specs.declared.words.Trips.{Trips}
+use Rattle.sota_app.specs.declared.words.TimedAsk.{TimedAsk}
 use Rattle.sota_app.specs.declared.words.Request.{Request}
 use Rattle.sota_app.specs.declared.words.Request.TheVariants as requests
 use Rattle.sota_app.specs.declared.status.Status.{Status}
@@ -112,17 +116,45 @@ read_names net bytes = or_input_fault (λ fault. faults.Names fault) (places_of 
 abbrev pub names_of : List ℕ → Files → Net → Result (List Place) NoInput
 names_of name files net = input_bytes inputs.Names (files name) >>= read_names net
 
+-- the networks of periods after those that are known, each by its start and its word for histograms
+abbrev pub periods_after : RawGraph → Files → List (ℕ × Net) → List (ℕ × List ℕ)
+    → Result (List (ℕ × Net)) NoInput
+periods_after graph files known [] = Ok known
+periods_after graph files known (p ∷ ps) = do
+  net ← with_hists p.1 files graph
+  periods_after graph files (known ++ (p.0, net) ∷ []) ps
+
+-- masses have one denominator in all periods
+abbrev pub unless_differs : Option ℕ → List (ℕ × Net) → Result (List (ℕ × Net)) NoInput
+unless_differs None periods = Ok periods
+unless_differs (Some place) periods = Err (ends.Fault (faults.ScaleDiffers place))
+
+abbrev pub one_scale : List (ℕ × Net) → Result (List (ℕ × Net)) NoInput
+one_scale periods = unless_differs (scale_differs periods) periods
+
+-- all periods of a request: the first one starts at tick 0 of the clock
+abbrev pub all_periods : TimedRequest → List (ℕ × List ℕ)
+all_periods words = (0, words.hists) ∷ words.later
+
+abbrev pub periods_of : TimedRequest → Files → Result (List (ℕ × Net)) NoInput
+periods_of words files = do
+  graph ← graph_of words.graph files
+  periods ← periods_after graph files [] (all_periods words)
+  one_scale periods
+
 -- ---- requests
 
 -- what is to be done on a network: lines are to be played in a voice, or a policy of one of the two
 -- versions is to be judged, or trips are to follow one of version 1 besides, or an ask is to be
--- planned and its policy judged
+-- planned and its policy judged, or one is to be planned over periods of the clock, of which the
+-- first has this network
 pub data Job : Type 0 where
   play : Voice → List ScriptLine → Job
   judge : Table → Job
   judge_bracket : Bracket → Job
   replay : Table → Trips → Job
   show : Ask3 → Job
+  timed : List (ℕ × Net) → TimedAsk → Job
 
 pub record Work : Type 0 where
   pub net : Net
@@ -160,6 +192,9 @@ work_of (requests.Report words) files = do
   })
 work_of (requests.Make make) files =
     Ok (record { net = net_made make; job = show (ask_made make) })
+work_of (requests.Timed words) files = do
+  periods ← periods_of words files
+  Ok (record { net = first_net periods; job = timed periods words.asked })
 
 -- ---- outcomes
 
@@ -210,12 +245,20 @@ plan_outcome net ask (Err fault) = record {
 abbrev pub shown : Net → Ask → Outcome
 shown net ask = plan_outcome net ask (plan_result net ask)
 
+-- the answer over periods of the clock, or why the ask is refused
+abbrev pub timed_outcome : List (ℕ × Net) → TimedAsk → Outcome
+timed_outcome periods asked = record {
+  outputs = only_line (planned_line asked (planned periods asked));
+  status = planned_status (planned periods asked);
+}
+
 abbrev pub job_outcome : Net → Job → Outcome
 job_outcome net (play voice lines) = replied voice (replies_to net lines)
 job_outcome net (judge table) = judged net table
 job_outcome net (judge_bracket table) = bracket_judged net table
 job_outcome net (replay table trips) = replayed net table trips
 job_outcome net (show ask) = shown net (session_ask ask)
+job_outcome net (timed periods asked) = timed_outcome periods asked
 
 -- an input that is not accepted; want of memory is never the meaning of files
 abbrev pub no_input : NoInput → Outcome

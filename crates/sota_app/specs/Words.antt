@@ -1,15 +1,17 @@
 -- The requests and their words.
 use Rattle.std.specs.Prelude.{ℕ, List, [], ◌∷◌, Option, Some, None, option_map, option_and_then}
-use Rattle.std.specs.Prelude.{◌≡◌, true, nat_le, if◌then◌else◌, codes}
+use Rattle.std.specs.Prelude.{◌≡◌, ◌≤◌, true, nat_le, if◌then◌else◌, codes}
 use Rattle.std.specs.Str.{bytes_eq}
 use Rattle.sota_text.specs.Text.{number_of}
 use Rattle.sota_text.specs.Words.{three, four}
 use Rattle.sota_make.specs.Made.{is_size}
 use Rattle.sota_script.specs.declared.command.Ask3.{Ask3}
-use Rattle.sota_app.specs.Requests.{AskRequest, FileRequest, ReportRequest}
+use Rattle.sota_app.specs.Later.{LATER_LIMIT, later_of, are_later}
+use Rattle.sota_app.specs.Requests.{AskRequest, FileRequest, ReportRequest, TimedRequest}
 use Rattle.sota_app.specs.declared.words.ReplayWords.{ReplayWords}
 use Rattle.sota_app.specs.declared.words.Trips.{Trips}
 use Rattle.sota_app.specs.declared.words.MakeWords.{MakeWords}
+use Rattle.sota_app.specs.declared.words.TimedAsk.{TimedAsk}
 use Rattle.sota_app.specs.declared.words.Request.{Request}
 use Rattle.sota_app.specs.declared.words.Request.TheVariants as requests
 
@@ -86,6 +88,34 @@ make_request words =
     option_and_then if_sized
     (option_and_then (λ word. make_of word.0 word.1 word.2 word.3 word.4) (five words))
 
+-- 'O D T A'
+abbrev pub asked_of : List ℕ → List ℕ → List ℕ → List ℕ → Option TimedAsk
+asked_of origin dest budget deadline =
+    option_and_then (λ ask. option_map (λ clock. record { ask = ask; deadline = clock })
+    (number_of deadline)) (ask_of origin dest budget)
+
+-- a trip begins at tick 0 of the clock or later
+abbrev pub if_in_time : TimedAsk → Option TimedAsk
+if_in_time asked = if nat_le asked.ask.budget asked.deadline then Some asked else None
+
+abbrev pub timed_ask : List ℕ → List ℕ → List ℕ → List ℕ → Option TimedAsk
+timed_ask origin dest budget deadline =
+    option_and_then if_in_time (asked_of origin dest budget deadline)
+
+abbrev pub if_later : TimedRequest → Option TimedRequest
+if_later words = if are_later LATER_LIMIT 0 words.later then Some words else None
+
+-- 'GRAPH O D T A HISTS (START HISTS)..' after 'timed'
+abbrev pub timed_request : List (List ℕ) → Option TimedRequest
+timed_request (graph ∷ origin ∷ dest ∷ budget ∷ deadline ∷ hists ∷ later) =
+    option_and_then if_later (option_map (λ asked. record {
+      graph = graph;
+      hists = hists;
+      asked = asked;
+      later = later_of later;
+    }) (timed_ask origin dest budget deadline))
+timed_request _ = None
+
 -- the request of the words after the program's name, where they are one: the first word decides
 abbrev pub request_of : List (List ℕ) → Option Request
 request_of [] = None
@@ -102,9 +132,17 @@ request_of (first ∷ words) =
     option_map (λ request. requests.Make request) (make_request words)
     else (if bytes_eq first (codes "report") then
     option_map (λ request. requests.Report request) (report_request words)
-    else None)))))
+    else (if bytes_eq first (codes "timed") then
+    option_map (λ request. requests.Timed request) (timed_request words)
+    else None))))))
 
--- a network is made of the numbers of the request, where it has those
+-- no trip begins before the clock does, and the periods follow one another
+pub record IsTimely (words : TimedRequest) : Type 0 where
+  pub begins : words.asked.ask.budget ≤ words.asked.deadline
+  pub later : are_later LATER_LIMIT 0 words.later ≡ true
+
+-- a network is made of the numbers of the request, or periods of its words, where it has those
 abbrev pub IsSized : Request → Type 0
 IsSized (requests.Make make) = is_size make.nodes make.arcs make.span ≡ true
+IsSized (requests.Timed words) = IsTimely words
 IsSized _ = Unit {0}

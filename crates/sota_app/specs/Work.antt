@@ -11,7 +11,7 @@ use Rattle.sota_session.specs.Asks.{ask_fault}
 use Rattle.sota_session.specs.State.{state_after, pushes_for, state_edited}
 use Rattle.sota_session.specs.declared.ask.Ask.{Ask}
 use Rattle.sota_session.specs.declared.ask.AskFault.{AskFault}
-use Rattle.sota_app.specs.Outcome.{Job, play, judge, judge_bracket, replay, show}
+use Rattle.sota_app.specs.Outcome.{Job, play, judge, judge_bracket, replay, show, timed}
 use Rattle.sota_app.specs.Script.{ScriptLine, session_ask, command_refusal, step}
 use Rattle.sota_app.specs.declared.reply.Refusal.{Refusal}
 
@@ -82,7 +82,8 @@ pushes_unless None pushes = pushes
 pushes_unless (Some fault) pushes = 0
 
 -- the pushes of a job: at first nothing is kept. The plan that is shown is pushed once, for its
--- answer and its policy
+-- answer and its policy. Planning over periods of the clock pushes nothing: its values stand in
+-- tables of their own, of which nothing is said here
 abbrev pub job_work : Net → Job → ℕ
 job_work net (play voice lines) = work net lines (first_state net.nodes)
 job_work net (judge table) = 0
@@ -90,6 +91,7 @@ job_work net (judge_bracket table) = 0
 job_work net (replay table trips) = 0
 job_work net (show ask) =
     pushes_unless (ask_fault net (session_ask ask)) (region_pushes net (session_ask ask))
+job_work net (timed periods asked) = 0
 
 -- so much was done between two counts of pushes
 pub record IsSpent (effort : Effort) (old new : ℕ) (kept : State) : Type 0 where

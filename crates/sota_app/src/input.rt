@@ -59,6 +59,9 @@ pub enum InputFault {
     Policy(PolicyFault),
     /// The file of place names has this fault.
     Names(NamesFault),
+    /// The masses of the period at this place, counted from 0, are over another denominator than
+    /// those of the first.
+    ScaleDiffers(u32),
 }
 
 /// Why there is no input.
@@ -83,6 +86,7 @@ impl InputFault {
             InputFault::Hists(_) => Input::Hists,
             InputFault::Policy(_) => Input::Policy,
             InputFault::Names(_) => Input::Names,
+            InputFault::ScaleDiffers(_) => Input::Hists,
         }
     }
 
@@ -96,6 +100,7 @@ impl InputFault {
             InputFault::Hists(fault) => fault.word(),
             InputFault::Policy(fault) => fault.word(),
             InputFault::Names(fault) => fault.word(),
+            InputFault::ScaleDiffers(_) => b"ScaleDiffers",
         }
     }
 
@@ -109,6 +114,7 @@ impl InputFault {
             InputFault::Hists(fault) => u64::from(fault.place()),
             InputFault::Policy(fault) => fault.place(),
             InputFault::Names(fault) => u64::from(fault.place()),
+            InputFault::ScaleDiffers(place) => u64::from(place),
         }
     }
 

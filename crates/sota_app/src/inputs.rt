@@ -15,26 +15,32 @@ ghost use Rattle.sota_app.specs.declared.words.Request.TheVariants.{Report};
 ghost use Rattle.sota_app.specs.Words.{IsSized};
 ghost use Rattle.sota_app.specs.Shown.{net_made};
 ghost use Rattle.sota_app.specs.Inputs.{TextAnswers, InputAnswers, task_work, job_of, IsShortJob};
+ghost use Rattle.sota_app.specs.Inputs.{IsShortTask, HasRoads};
 ghost use Rattle.sota_app.specs.declared.voice.Voice.TheVariants.{Plain};
 
 use crate::input::{Input, InputFault, NoInput};
+use crate::periods::load_timed;
 use crate::voice::Voice;
-use crate::words::{MakeWords, ReportWords, Request, Trips};
+use crate::words::{MakeWords, ReportWords, Request, TimedAsk, Trips};
 use sota_dimacs::{GraphFault, RawGraph, read_graph};
 use sota_edge::{Desk, LoadError};
+use sota_histcsv::laws::accepted_texts;
 use sota_histcsv::{HistFileFault, certain_network, read_histograms};
 use sota_make::{MakeFault, make_network};
 use sota_network::Network;
+use sota_period::Timed;
 use sota_polfile::{AnyTable, BracketTable, PolicyFault, PolicyTable, read_any, read_policy};
 use sota_report::{Names, NamesFault};
 use sota_script::Ask3;
 use std::alloc::Global;
 
-/// A network, and what is to be done on it.
+/// What is to be done, and on what.
 #[derive(Drop)]
-pub struct Task {
-    pub network: Network,
-    pub job: Job,
+pub enum Task {
+    /// This is to be done on a network.
+    OnNetwork(Network, Job),
+    /// This is to be planned over periods of the clock.
+    OverPeriods(Timed, TimedAsk),
 }
 
 /// What is to be done on a network.
@@ -103,7 +109,7 @@ fn parse_graph(alloc: Global, bytes: &[u8]) -> Result<RawGraph, NoInput>
 }
 
 /// The graph that the file of this name holds.
-fn load_graph<D: Desk>(alloc: Global, name: &str, desk: &mut D) -> Result<RawGraph, NoInput>
+pub fn load_graph<D: Desk>(alloc: Global, name: &str, desk: &mut D) -> Result<RawGraph, NoInput>
     ensures read { InputAnswers (λ graph. graph) result (graph_of name.now) (Unread name.now)
         (D.state desk.old) (D.state desk.new) }
     ensures valid { IfOk result (λ graph. IsGraph graph) }
@@ -115,7 +121,8 @@ fn load_graph<D: Desk>(alloc: Global, name: &str, desk: &mut D) -> Result<RawGra
 /// The network in which each arc takes its weight.
 fn take_weights(alloc: Global, graph: RawGraph) -> Result<Network, NoInput>
     requires { IsGraph graph }
-    ensures { TextAnswers result (certain_hists graph) }
+    ensures read { TextAnswers result (certain_hists graph) }
+    ensures roads { IfOk result (λ network. HasRoads graph network) }
 {
     match certain_network(alloc, graph) {
         Ok(network) => Ok(network),
@@ -128,8 +135,10 @@ fn take_weights(alloc: Global, graph: RawGraph) -> Result<Network, NoInput>
 fn parse_hists(alloc: Global, bytes: &[u8], graph: RawGraph) -> Result<Network, NoInput>
     requires size { length bytes.now ≤ TEXT_LIMIT }
     requires graph { IsGraph graph }
-    ensures { TextAnswers result (read_hists graph bytes.now) }
+    ensures read { TextAnswers result (read_hists graph bytes.now) }
+    ensures roads { IfOk result (λ network. HasRoads graph network) }
 {
+    accepted_texts();
     match read_histograms(alloc, bytes, graph) {
         Ok(network) => Ok(network),
         Err(HistFileFault::NoMemory) => Err(NoInput::NoMemory),
@@ -138,15 +147,17 @@ fn parse_hists(alloc: Global, bytes: &[u8], graph: RawGraph) -> Result<Network, 
 }
 
 /// The network of a graph and of a word for its histograms.
-fn load_hists<D: Desk>(
+pub fn load_hists<D: Desk>(
     alloc: Global,
     name: &str,
     graph: RawGraph,
     desk: &mut D,
 ) -> Result<Network, NoInput>
     requires { IsGraph graph }
-    ensures { InputAnswers (λ network. network) result (λ files. with_hists name.now files graph)
+    ensures read { InputAnswers (λ network. network) result
+        (λ files. with_hists name.now files graph)
         (UnreadHists name.now) (D.state desk.old) (D.state desk.new) }
+    ensures roads { IfOk result (λ network. HasRoads graph network) }
 {
     if name == "-" {
         return take_weights(alloc, graph);
@@ -274,7 +285,7 @@ fn load_report<D: Desk>(
 ) -> Result<Task, NoInput>
     ensures read { InputAnswers task_work result (work_of (Report words.now))
         (UnreadReport words.now) (D.state desk.old) (D.state desk.new) }
-    ensures short { IfOk result (λ task. IsShortJob task.job) }
+    ensures short { IfOk result (λ task. IsShortTask task) }
 {
     let network = load_network(alloc, words.graph, words.hists, desk)?;
     let names = load_names(alloc, words.names, &network, desk)?;
@@ -283,7 +294,7 @@ fn load_report<D: Desk>(
         voice: Voice::Json(names),
         source: Source::Text(text),
     });
-    Ok(Task { network, job })
+    Ok(Task::OnNetwork(network, job))
 }
 
 /// The lines of a source, with plain replies.
@@ -306,36 +317,40 @@ pub fn load_task<D: Desk>(
     requires { IsSized request.now }
     ensures read { InputAnswers task_work result (work_of request.now) (UnreadInput request.now)
         (D.state desk.old) (D.state desk.new) }
-    ensures short { IfOk result (λ task. IsShortJob task.job) }
+    ensures short { IfOk result (λ task. IsShortTask task) }
 {
     match request {
         Request::Ask(words) => {
             let network = load_network(alloc, words.graph, words.hists, desk)?;
             let job = Job::Play(plain(Source::Ask(words.ask)));
-            Ok(Task { network, job })
+            Ok(Task::OnNetwork(network, job))
         }
         Request::Run(words) => {
             let network = load_network(alloc, words.graph, words.hists, desk)?;
             let text = load_input(alloc, Input::Script, words.file, desk)?;
             let job = Job::Play(plain(Source::Text(text)));
-            Ok(Task { network, job })
+            Ok(Task::OnNetwork(network, job))
         }
         Request::Check(words) => {
             let network = load_network(alloc, words.graph, words.hists, desk)?;
             let job = judge(load_any(alloc, words.file, desk)?);
-            Ok(Task { network, job })
+            Ok(Task::OnNetwork(network, job))
         }
         Request::Replay(words) => {
             let names = &words.names;
             let network = load_network(alloc, names.graph, names.hists, desk)?;
             let job = Job::Replay(load_policy(alloc, names.file, desk)?, words.trips);
-            Ok(Task { network, job })
+            Ok(Task::OnNetwork(network, job))
         }
         Request::Report(words) => load_report(alloc, words, desk),
+        Request::Timed(words) => {
+            let periods = load_timed(alloc, words, desk)?;
+            Ok(Task::OverPeriods(periods, words.asked))
+        }
         Request::Make(words) => {
             let network = make(alloc, words)?;
             let job = Job::Show(words.ask());
-            Ok(Task { network, job })
+            Ok(Task::OnNetwork(network, job))
         }
     }
 }

@@ -202,7 +202,7 @@ impl Refusal {
 }
 
 /// Appends a number, or a dash.
-fn push_number(text: &mut TextOut, number: Option<u32>) -> Result<(), NoMemory>
+pub fn push_number(text: &mut TextOut, number: Option<u32>) -> Result<(), NoMemory>
     ensures { OnOk result (text.new ≡ text.old ++ number_text number) }
 {
     match number {

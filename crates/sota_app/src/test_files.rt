@@ -38,7 +38,7 @@ const TIGHT_POLICY: &[u8] = b"SOTAPOL1\0\0\0\x02\0\0\0\x02\0\0\0\x01\0\0\0\x04\0
 const STUCK_POLICY: &[u8] = b"SOTAPOL1\0\0\0\x02\0\0\0\x02\0\0\0\x01\0\0\0\x04\0\0\0\x01\0\0\0\0";
 
 /// Each by its name.
-pub(crate) const FILES: [(&str, &[u8]); 60] = [
+pub(crate) const FILES: [(&str, &[u8]); 61] = [
     // Graphs.
     ("triangle", TRIANGLE),
     ("road", b"p sp 2 1\na 1 2 5\n"),
@@ -64,6 +64,7 @@ pub(crate) const FILES: [(&str, &[u8]); 60] = [
     // Histograms. In the first ones, over 4, the second road of the triangle takes one or three
     // ticks, and the third three or five.
     ("times", b"arc,tick,mass/4\n2,1,2\n2,3,2\n3,3,3\n3,5,1\n"),
+    ("quick", b"arc,tick,mass/4\n2,1,4\n3,3,3\n3,5,1\n"),
     (
         "further",
         b"arc,tick,mass/4\n2,1,2\n2,3,2\n3,3,3\n3,5,1\n1,0,0\n",

@@ -1,6 +1,70 @@
 // Transcripts of runs. A run has its words after `>`, then what is written, and `=` before the
 // status.
 
+/// Of asks where travel times depend on the clock.
+pub(crate) const TIMED: &str = "> timed triangle 1 3 3 10 times 8 quick
+timed 1 3 3 10 1.000000000000000000 1.000000000000000000 1
+= 0
+> timed triangle 1 3 3 7 times 8 quick
+timed 1 3 3 7 0.750000000000000000 0.750000000000000000 3
+= 0
+> timed triangle 1 3 3 3 times
+timed 1 3 3 3 0.750000000000000000 0.750000000000000000 3
+= 0
+> timed triangle 3 1 3 10 - 8 -
+timed 3 1 3 10 0.000000000000000000 0.000000000000000000 -
+= 0
+> timed triangle 1 3 3 10 times 8 -
+refused hists ScaleDiffers 1
+= 3
+> timed triangle 1 3 3 10 times 8 quick 9 - 10 thirds
+refused hists ScaleDiffers 2
+= 3
+> timed triangle 1 3 3 10 times 8 - 9 absent
+= 4
+> timed triangle 1 3 3 10 times 8 scale 9 absent
+refused hists Header 0
+= 3
+> timed triangle 1 3 3 2 times
+refused words
+= 2
+> timed triangle 1 3 3 10 times 8
+refused words
+= 2
+> timed triangle 1 3 3 10 times 0 quick
+refused words
+= 2
+> timed triangle 1 3 3 10 times x quick
+refused words
+= 2
+> timed triangle 1 3 3 10 times 8 quick 8 times
+refused words
+= 2
+> timed triangle 1 3 3 10 times 8 quick 7 times
+refused words
+= 2
+> timed triangle 1 3 3 10
+refused words
+= 2
+> timed triangle 4 3 3 10 times 8 quick
+refused 1 NoOrigin
+= 1
+> timed triangle 1 0 3 10 times 8 quick
+refused 1 NoDest
+= 1
+> timed triangle 1 3 65536 65536 times
+refused 1 Budget
+= 1
+> timed triangle 1 3 3 99 - 1 - 2 - 3 - 4 - 5 - 6 - 7 - 8 - 9 - 10 - 11 - 12 - 13 - 14 - 15 - 16 - \
+17 - 18 - 19 - 20 - 21 - 22 - 23 - 24 - 25 - 26 - 27 - 28 - 29 - 30 - 31 -
+timed 1 3 3 99 1.000000000000000000 1.000000000000000000 1
+= 0
+> timed triangle 1 3 3 99 - 1 - 2 - 3 - 4 - 5 - 6 - 7 - 8 - 9 - 10 - 11 - 12 - 13 - 14 - 15 - 16 - \
+17 - 18 - 19 - 20 - 21 - 22 - 23 - 24 - 25 - 26 - 27 - 28 - 29 - 30 - 31 - 32 -
+refused words
+= 2
+";
+
 /// Of scripts with names of places, and replies for programs.
 pub(crate) const REPORTS: &str = "> report triangle times names reported
 {\"arc\":3,\"budget\":3,\"dest\":3,\"from\":\"Home\",\"kind\":\"answer\",\

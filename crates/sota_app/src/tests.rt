@@ -4,7 +4,7 @@ ghost use Rattle.std.specs.Prelude.{◌≡◌, ◌<◌};
 use crate::test_files::{
     CHANGED, CHANGED_BRACKETS, FILES, ROAD_POLICY, TRIANGLE, TRIANGLE_BRACKET, TRIANGLE_POLICY,
 };
-use crate::test_runs::{FAULTS, REPORTS, RUNS};
+use crate::test_runs::{FAULTS, REPORTS, RUNS, TIMED};
 use crate::{Status, run};
 use sota_edge::{Desk, MemoryDesk, MemorySink, Sink, SureDesk, SureSink};
 use sota_text::{TextOut, read_u32};
@@ -215,6 +215,7 @@ fn runs(rt: HostRuntime) -> Result<(), Fail> {
     let mut desks = Desks::new(rt.alloc(), 0)?;
     assert_eq!(rt; first_wrong(&mut desks, RUNS)?, None);
     assert_eq!(rt; first_wrong(&mut desks, REPORTS)?, None);
+    assert_eq!(rt; first_wrong(&mut desks, TIMED)?, None);
     assert!(rt; desks.sure.held("p.pol") == Some(TRIANGLE_POLICY));
     assert!(rt; desks.sure.held("q") == Some(ROAD_POLICY));
     assert!(rt; desks.sure.held("b") == Some(TRIANGLE_BRACKET));

@@ -9,6 +9,9 @@ ghost use Rattle.sota_polfile.specs.Table.{Table};
 ghost use Rattle.sota_app.specs.Outputs.{Ends, LineEnds};
 ghost use Rattle.sota_app.specs.Words.{request_of};
 ghost use Rattle.sota_app.specs.Inputs.{NoInputWritten, IsShortJob, job_of};
+ghost use Rattle.sota_app.specs.Inputs.{IsShortTask, task_work};
+ghost use Rattle.sota_app.specs.TimedMeaning.{IsTimed, TimedMeant};
+ghost use Rattle.sota_app.specs.declared.words.TimedAsk.{TimedAsk};
 ghost use Rattle.sota_app.specs.Inputs.{IsWorked, IsIdle, JobHolds};
 ghost use Rattle.sota_app.specs.Work.{job_work};
 ghost use Rattle.sota_app.specs.Commands.{CommandLine, IsDone, Routed, Allowed};
@@ -31,6 +34,7 @@ use crate::player::play_lines;
 use crate::showing::show_plan;
 use crate::status::Status;
 use crate::stop::Stop;
+use crate::timing::answer_timed;
 use crate::words::read_words;
 use sota_check::laws::{
     bracketed_encloses, certified_attains, passed_brackets_hold, passed_policies_hold,
@@ -38,6 +42,7 @@ use sota_check::laws::{
 use sota_edge::{Desk, Sink, put_all};
 use sota_network::Network;
 use sota_network::laws::grid_encloses;
+use sota_period::laws::timed_grid_encloses;
 use sota_quantile::laws::needs_by_trees;
 use sota_route::laws::routes_are_enclosed;
 use sota_units::Steps;
@@ -102,6 +107,33 @@ fn do_job<D: Desk, O: Sink, P: Ledger>(
     }
 }
 
+/// Does what is to be done. The status is the one of what was written.
+fn do_task<D: Desk, O: Sink, P: Ledger>(
+    alloc: Global,
+    task: Task,
+    desk: &mut D,
+    out: &mut O,
+    pushes: &mut Steps<P>,
+) -> Result<Status, Stop>
+    requires { IsShortTask task }
+    ensures made { Ends result
+        (job_outcome (task_work task).net (task_work task).job).outputs
+        (D.state desk.old) (D.state desk.new) (O.state out.old) (O.state out.new) }
+    ensures status { IfOk result (λ status.
+        status ≡ (job_outcome (task_work task).net (task_work task).job).status) }
+    ensures holds { IfOk result (λ _. JobHolds (task_work task).net (task_work task).job) }
+    ensures count { OnOk result (pushes.new ≡ pushes.old
+        + job_work (task_work task).net (task_work task).job) }
+{
+    match task {
+        Task::OnNetwork(network, job) => do_job(alloc, network, job, desk, out, pushes),
+        Task::OverPeriods(periods, asked) => {
+            let blank = Blank::new(1);
+            answer_timed::<O, Brand>(alloc, &periods, &asked, out, blank)
+        }
+    }
+}
+
 /// Does what the words ask for. The status is the one of what was written.
 fn serve<D: Desk, O: Sink, P: Ledger>(
     alloc: Global,
@@ -127,7 +159,7 @@ fn serve<D: Desk, O: Sink, P: Ledger>(
         return refuse_words(out);
     };
     match load_task(alloc, &request, desk) {
-        Ok(Task { network, job }) => do_job(alloc, network, job, desk, out, pushes),
+        Ok(task) => do_task(alloc, task, desk, out, pushes),
         Err(end) => refuse_input(alloc, end, out),
     }
 }
@@ -205,6 +237,13 @@ pub fn run<D: Desk, O: Sink, P: Ledger>(
         → line.command ≡ Need ask confidence
         → Allowed line ask confidence (O.state out.old) (O.state out.new) }
 
+    // And where an ask was planned over periods of the clock and all is done, the bounds that were
+    // written enclose its greatest on-time probability there.
+    ensures timed { (files : Files) (periods : List (ℕ × Net)) (asked : TimedAsk)
+        → (D.state desk.old).holds ≡ Some files → result ≡ Status.Done
+        → IsTimed (map string_bytes words.now) files periods asked
+        → TimedMeant periods asked (O.state out.old) (O.state out.new) }
+
     // The pushes are counted exactly where the job is done, and there are none where there is none.
     ensures counted { (files : Files) (net : Net) (job : outcomes.Job)
         → (D.state desk.old).holds ≡ Some files → IsWorked result
@@ -221,6 +260,7 @@ pub fn run<D: Desk, O: Sink, P: Ledger>(
     bracketed_encloses();
     routes_are_enclosed();
     needs_by_trees();
+    timed_grid_encloses();
     match serve(alloc, words, desk, out, pushes) {
         Ok(status) => status,
         Err(Stop::PutFailed | Stop::StoreFailed) => Status::WriteFault,

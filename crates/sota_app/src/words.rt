@@ -1,9 +1,12 @@
 // The words of the command line.
-ghost use Rattle.std.specs.Prelude.{◌≡◌, true, map, string_bytes, option_map, IfSome};
+ghost use Rattle.std.specs.Prelude.{◌≡◌, ◌<◌, ◌≤◌, true, map, length, string_bytes, option_map};
+ghost use Rattle.std.specs.Prelude.{IfSome};
 ghost use Rattle.sota_make.specs.Made.{is_size};
 ghost use Rattle.sota_app.specs.Words.{ask_of, ask_request, file_request, report_request};
 ghost use Rattle.sota_app.specs.Words.{trips_of, replay_request, make_of, make_request};
-ghost use Rattle.sota_app.specs.Words.{request_of, five, IsSized};
+ghost use Rattle.sota_app.specs.Later.{later_of, are_later, first_pair_of};
+ghost use Rattle.sota_app.specs.Words.{timed_ask, timed_request};
+ghost use Rattle.sota_app.specs.Words.{request_of, five, IsTimely, IsSized};
 ghost use Rattle.sota_app.specs.Shown.{ask_made};
 ghost use Rattle.sota_text.specs.Words.{three, four};
 
@@ -14,6 +17,9 @@ use std::marker::Model;
 
 /// The most trips of a request.
 const TRIP_LIMIT: u32 = 1_000_000;
+
+/// The most periods of a request after the first.
+const LATER_LIMIT: u32 = 31;
 
 /// The words `ask GRAPH HISTS O D T`: the names of the graph and of the histograms, and the ask.
 #[derive(Drop)]
@@ -115,6 +121,38 @@ impl MakeWords {
     }
 }
 
+/// An ask, and where the clock shows when its budget ends.
+#[derive(Clone, Copy, Debug, PartialEq, Eq)]
+pub struct TimedAsk {
+    pub ask: Ask3,
+    pub deadline: u32,
+}
+
+/// The words `timed GRAPH O D T A HISTS (START HISTS)..`: the names of the graph and of the
+/// histograms of the first period, what is asked, and the words of the further periods.
+#[derive(Drop)]
+pub struct TimedWords<'a> {
+    pub graph: &'a str,
+    pub hists: &'a str,
+    pub asked: TimedAsk,
+    pub later: &'a [String],
+}
+
+impl<'a> Model for TimedWords<'a> {
+    ghost use Rattle.std.specs.Prelude.{map, string_bytes};
+    ghost use Rattle.sota_app.specs.Requests.{TimedRequest};
+    ghost use Rattle.sota_app.specs.Later.{later_of};
+
+    ghost Value = { TimedRequest };
+
+    ghost view = { λ words. record {
+      graph = words.graph.now;
+      hists = words.hists.now;
+      asked = words.asked;
+      later = later_of (map string_bytes words.later.now);
+    } };
+}
+
 /// What the words ask for.
 #[derive(Drop)]
 pub enum Request<'a> {
@@ -130,6 +168,8 @@ pub enum Request<'a> {
     Make(MakeWords),
     /// Every line of a script in order, with names of places, and replies for programs.
     Report(ReportWords<'a>),
+    /// One ask where travel times depend on the clock.
+    Timed(TimedWords<'a>),
 }
 
 /// The request of the words after the program's name. None exactly where they are no request.
@@ -150,6 +190,8 @@ pub fn read_words(words: &[String]) -> Option<Request<'_>>
         Some(Request::Make(read_make_words(rest)?))
     } else if first.as_str() == "report" {
         Some(Request::Report(read_report_words(rest)?))
+    } else if first.as_str() == "timed" {
+        Some(Request::Timed(read_timed_words(rest)?))
     } else {
         None
     }
@@ -280,4 +322,72 @@ fn read_make(seed: &str, nodes: &str, arcs: &str, span: &str, budget: &str) -> O
         span: read_u32(span.as_bytes())?,
         budget: read_u32(budget.as_bytes())?,
     })
+}
+
+/// The words `GRAPH O D T A HISTS (START HISTS)..`.
+fn read_timed_words(words: &[String]) -> Option<TimedWords<'_>>
+    ensures request { result ≡ timed_request (map string_bytes words.now) }
+    ensures timely { IfSome result (λ words. IsTimely words) }
+{
+    let (graph, words) = words.split_first()?;
+    let (origin, words) = words.split_first()?;
+    let (dest, words) = words.split_first()?;
+    let (budget, words) = words.split_first()?;
+    let (deadline, words) = words.split_first()?;
+    let (hists, later) = words.split_first()?;
+    let asked = read_timed_ask(
+        origin.as_str(),
+        dest.as_str(),
+        budget.as_str(),
+        deadline.as_str(),
+    )?;
+    if !are_later(LATER_LIMIT, 0, later) {
+        return None;
+    }
+    Some(TimedWords {
+        graph: graph.as_str(),
+        hists: hists.as_str(),
+        asked,
+        later,
+    })
+}
+
+/// The words `O D T A`. None where the trip would begin before the clock does.
+fn read_timed_ask(origin: &str, dest: &str, budget: &str, deadline: &str) -> Option<TimedAsk>
+    ensures request { result ≡ timed_ask origin.now dest.now budget.now deadline.now }
+    ensures begins { IfSome result (λ asked. asked.ask.budget ≤ asked.deadline) }
+{
+    let ask = read_ask(origin, dest, budget)?;
+    let deadline = read_u32(deadline.as_bytes())?;
+    if ask.budget > deadline {
+        return None;
+    }
+    Some(TimedAsk { ask, deadline })
+}
+
+/// The first of the pairs `(START HISTS)..`, and the words of the others. A START that is no number
+/// counts as 0, and so does one without HISTS.
+pub fn first_pair(words: &[String]) -> Option<(u32, &str, &[String])>
+    ensures pairs { later_of (map string_bytes words.now) ≡ first_pair_of
+        (option_map (λ pair. (pair.0, pair.1.now, map string_bytes pair.2.now)) result) }
+    ensures fewer { IfSome result (λ pair. length pair.2.now < length words.now) }
+{
+    let (start, words) = words.split_first()?;
+    match words.split_first() {
+        Some((hists, words)) => {
+            let start = read_u32(start.as_bytes()).unwrap_or(0);
+            Some((start, hists.as_str(), words))
+        }
+        None => Some((0, "", words)),
+    }
+}
+
+/// Whether there are at most so many periods, each of which starts after the one before.
+fn are_later(room: u32, last: u32, words: &[String]) -> bool
+    ensures { result ≡ are_later room last (later_of (map string_bytes words.now)) }
+{
+    match first_pair(words) {
+        Some((start, _, rest)) => room > 0 && last < start && are_later(room - 1, start, rest),
+        None => true,
+    }
 }

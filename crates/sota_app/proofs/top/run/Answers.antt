@@ -21,7 +21,9 @@ use Rattle.sota_check.specs.Rejected.{rejection}
 use Rattle.sota_polfile.specs.Bracket.{IsBracket}
 use Rattle.sota_check.specs.Bracketed.{IsBracketed}
 use Rattle.sota_check.specs.BracketRejected.{bracket_rejection}
-use Rattle.sota_app.specs.Outcome.{play, judge, judge_bracket, show, shown}
+use Rattle.sota_app.specs.Outcome.{play, judge, judge_bracket, show, shown, timed}
+use Rattle.sota_app.proofs.TimedDone.{answer_over, timed_done}
+use Rattle.sota_period.specs.Periods.{ArePeriods, first_net}
 use Rattle.sota_app.specs.Causes.{Delivered}
 use Rattle.sota_app.specs.Meaning.{line_net}
 use Rattle.sota_app.proofs.Exact.{exact, done_stands}
@@ -143,6 +145,30 @@ returns-in-Err-PutFailed-clause-idle g c = λ idle. absurd idle
 
 pub returns-in-Err-NoMemory-clause-idle : goal.returns-in-Err-NoMemory-clause-idle
 returns-in-Err-NoMemory-clause-idle g c = λ idle. absurd idle
+
+pub returns-in-Ok-clause-timed : goal.returns-in-Ok-clause-timed
+returns-in-Ok-clause-timed g c = λ files periods asked tells is made.
+    let words : List (List ℕ) = map (λ word. string_bytes word) c.args.words.now in
+    let answer = answer_over periods asked in
+    let valid : ArePeriods periods =
+    c.in-Ok.ensures.holds files (first_net periods) (timed periods asked) tells made
+    (subst IsWorked (sym is) tt) in
+    let law = c.timed_grid_encloses.ensures in
+    let o = asked.ask.origin in
+    let dest = asked.ask.dest in
+    let t = asked.ask.budget in
+    record {
+      lower = answer.lower;
+      upper = answer.upper;
+      next = answer.next;
+      written = timed_done periods asked (request_of words) files _ _ _ _ made
+          (done_stands _ _ _ _ _ _ _ is tells c.in-Ok.ensures.ended.cause);
+      periods_are = valid;
+      encloses = law.encloses periods asked.deadline dest o t valid;
+      ordered = law.order periods asked.deadline dest o t valid;
+      gap = law.gap periods asked.deadline dest o t valid;
+      whole = law.whole periods asked.deadline dest o t valid;
+    }
 
 pub returns-in-Ok-clause-routed : goal.returns-in-Ok-clause-routed
 returns-in-Ok-clause-routed g c = λ files line dest budget arcs tells none ran done is.

@@ -2,7 +2,7 @@ use Rattle.std.proofs.Common.{rules, ◌≡◌, List, ℕ, Option, Some, None, m
 use Rattle.sota_edge.specs.Desk.{DeskState}
 use Rattle.sota_edge.specs.Sink.{SinkState}
 use Rattle.sota_app.specs.Words.{request_of}
-use Rattle.sota_app.specs.Inputs.{task_work, job_of, JobHolds}
+use Rattle.sota_app.specs.Inputs.{task_work, JobHolds}
 use Rattle.sota_app.specs.Causes.{Ended, status_of}
 use Rattle.sota_app.specs.declared.words.Request.{Request}
 use Rattle.sota_app.proofs.Ends.{ok_ended, err_ended, words_ended}
@@ -26,12 +26,12 @@ returns-in-Ok-clause-ended g c =
     let is : Some c.in-Some.request ≡ request_of words = search rules in
     let d : DeskState = g.D.Desk.state c.args.desk.now in
     let m : DeskState = g.D.Desk.state c.load_task.new.desk in
-    let e : DeskState = g.D.Desk.state c.do_job.new.desk in
+    let e : DeskState = g.D.Desk.state c.do_task.new.desk in
     let s : SinkState = g.O.Sink.state c.args.out.now in
-    let t : SinkState = g.O.Sink.state c.do_job.new.out in
-    subst (λ (o : Option Request). Ended (status_of c.do_job.result) o d e s t) is
-    (ok_ended task_work c.in-Some.request c.in-Ok.field-0 c.do_job.result d m e s t
-    c.in-Ok.ensures.read c.do_job.ensures.made c.do_job.ensures.status)
+    let t : SinkState = g.O.Sink.state c.do_task.new.out in
+    subst (λ (o : Option Request). Ended (status_of c.do_task.result) o d e s t) is
+    (ok_ended task_work c.in-Some.request c.in-Ok.task c.do_task.result d m e s t
+    c.in-Ok.ensures.read c.do_task.ensures.made c.do_task.ensures.status)
 
 pub returns-in-Err-clause-ended : goal.returns-in-Err-clause-ended
 returns-in-Err-clause-ended g c =
@@ -52,5 +52,5 @@ returns-in-Err-clause-holds g c = λ files net job tells is.
 
 pub returns-in-Ok-clause-idle : goal.returns-in-Ok-clause-idle
 returns-in-Ok-clause-idle g c =
-    idle_done (c.do_job.new.pushes ≡ c.args.pushes.now) c.do_job.result
-    c.in-Ok.field-0.network (job_of c.in-Ok.field-0.job) c.do_job.ensures.status
+    idle_done (c.do_task.new.pushes ≡ c.args.pushes.now) c.do_task.result
+    (task_work c.in-Ok.task).net (task_work c.in-Ok.task).job c.do_task.ensures.status

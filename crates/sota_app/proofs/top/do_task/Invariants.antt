@@ -1,0 +1,5 @@
+use Rattle.sota_app.proofs.top.do_task.Given as goal
+
+-- the ledger of the products is that of the blank
+abbrev pub ghosts-answer_timed : goal.ghosts-answer_timed
+ghosts-answer_timed g a = record { name = a.blank.name; parts = a.blank.parts }

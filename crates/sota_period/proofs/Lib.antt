@@ -1,0 +1,16 @@
+pub mod Budget
+pub mod Rounding
+pub mod Best
+pub mod Grid
+pub mod Pairs
+pub mod Upper
+pub mod Lower
+pub mod Gap
+pub mod Periods
+pub mod Single
+pub mod Scales
+pub mod Spans
+pub mod Among
+pub mod Filling
+pub mod Feeding
+pub mod Orders

@@ -1,0 +1,18 @@
+use Rattle.std.proofs.Common.{◌≡◌, ◌-◌, ◌≤◌, length}
+use Rattle.sota_period.specs.Rows.{AreRows, asked_value, asked_width}
+use Rattle.sota_period.specs.Broad.{AllFed, state_at}
+use Rattle.sota_period.proofs.blocks.fill_period.Given as goal
+
+abbrev pub invariant-loop-at : goal.invariant-loop-at
+invariant-loop-at g l = record {
+  low : l.from ≤ l.at;
+  high : l.at ≤ l.to;
+  sums : length l.sums ≡ 64;
+  bests : length l.bests ≡ 64;
+  rows : AreRows l.ask l.at l.values;
+  count : length l.broad ≡ length l.network.arcs;
+  fed : AllFed (asked_value l.ask) l.network (asked_width l.ask) l.at (state_at g.Z.Summer.state l.broad);
+}
+
+abbrev pub decreases-loop-at : goal.decreases-loop-at
+decreases-loop-at g l = l.to - l.at
