@@ -39,6 +39,7 @@ BRACKET = bytes.fromhex(
     "00000002 06f05b59d3b20000 06f05b59d3b20000 00000000 00000000"
 )
 NAMES = "# places\n1 Home\n3 Work\n\n1 H\u00e4user\n".encode()
+LATER = b"arc,tick,mass/4\n2,1,4\n3,3,3\n3,5,1\n"
 LINES = [b"ask 1 3 2", b"edit 2 1:2 3:2", b"close 3", b"policy 4 3 3 name", b"bracket 4 3 3 name",
          b"# note", b"", b"\task 3 1 9", b"edit 3 3:3 5:1", b"route 3 3 1 2",
          b"need 1 3 0.750000000000000000 9"]
@@ -60,12 +61,14 @@ VERDICT = (rb"accepted \d+ \d+ \d+ " + GRAIN + rb"|rejected (Size|Scale)"
            rb"|rejected (NoArc|WrongTail|Value) \d+ \d+")
 BRACKET_VERDICT = (rb"enclosed \d+ \d+ \d+ " + GRAIN + rb" " + GRAIN + rb"|rejected Potential \d+"
                    rb"|rejected (Size|Scale)|rejected (NoArc|WrongTail|Lower|Upper) \d+ \d+")
-READERS = ["graph", "hists", "script", "policy", "bracket", "names"]
+TIMED = rb"timed 1 3 3 10 " + GRAIN + rb" " + GRAIN + rb" (-|\d+)"
+READERS = ["graph", "hists", "later", "script", "policy", "bracket", "names"]
 # What a refusal calls the text of a reader, and the replies to a text that is read.
-KINDS = {"bracket": "policy"}
+KINDS = {"bracket": "policy", "later": "hists"}
 OBJECT = (rb'\{"arc":3,"budget":3,"dest":3,"from":"?.*"?,"kind":"answer",'
           rb'"lower":750000000000000000,"origin":1,"to":"?.*"?,"upper":750000000000000000\}')
-REPLIES = {"policy": VERDICT, "bracket": VERDICT + rb"|" + BRACKET_VERDICT, "names": OBJECT}
+REPLIES = {"policy": VERDICT, "bracket": VERDICT + rb"|" + BRACKET_VERDICT, "names": OBJECT,
+           "later": TIMED}
 
 
 def mutated(draw, text):
@@ -211,6 +214,9 @@ def fault_of(reader, status, out, message, text):
         found = re.fullmatch(rb"refused (\w+) (\w+) (\d+)\n", out)
         # Without histograms a graph's weight of 0 is refused where it is taken for a time.
         of_weights = reader == "graph" and found and found[1] + found[2] == b"histsZeroTime"
+        # The histograms of a later period may have another denominator than the first period's.
+        if reader == "later" and out == b"refused hists ScaleDiffers 1\n":
+            return None
         kind = KINDS.get(reader, reader)
         of_reader = found and found[1].decode() == kind and re.fullmatch(CAUSES[kind], found[2])
         if not of_reader and not of_weights:
@@ -226,10 +232,11 @@ def fuzz_files(reader, rounds, seed, sota):
     """Rounds of one reader, many in a run of the spawner. Answers the first wrong one, or None."""
     draw = random.Random(f"{reader} {seed}")
     runner = Runner(sota)
-    text = {"graph": GRAPH, "hists": HISTS, "policy": PLAN, "bracket": BRACKET,
+    text = {"graph": GRAPH, "hists": HISTS, "later": LATER, "policy": PLAN, "bracket": BRACKET,
             "names": NAMES}[reader]
     words = {"graph": ["ask", "@", "-", "1", "3", "3"],
              "hists": ["ask", "graph", "@", "1", "3", "3"],
+             "later": ["timed", "graph", "1", "3", "3", "10", "hists", "8", "@"],
              "policy": ["check", "graph", "hists", "@"],
              "bracket": ["check", "graph", "hists", "@"],
              "names": ["report", "graph", "hists", "@", "asked"]}[reader]

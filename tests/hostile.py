@@ -24,6 +24,7 @@ LARGE = False
 
 GRAPH = b"p sp 3 3\na 1 2 1\na 2 3 1\na 1 3 3\n"
 HISTS = b"arc,tick,mass/4\n2,1,2\n2,3,2\n3,3,3\n3,5,1\n"
+LATER = b"arc,tick,mass/4\n2,1,4\n3,3,3\n3,5,1\n"
 SCRIPT = b"ask 1 3 2\nedit 2 1:4\nask 1 3 2\n"
 ANSWER = b"answer 1 3 2 0.500000000000000000 0.500000000000000000 1\n"
 REPLIES = (
@@ -41,11 +42,13 @@ ASK = ["ask", "graph", "hists", "1", "3", "2"]
 RUN = ["run", "graph", "hists", "script"]
 REPLAY = ["replay", "graph", "hists", "plan", "5", "7"]
 MAKE = ["make", "1", "2", "2", "1", "20"]
+TIMED = ["timed", "graph", "1", "3", "3", "10", "hists", "8", "later"]
 TRIPS = b"trips 5 arrived 3 late 2 stuck 0 lost 0\n"
 MADE = (
     b"made 2 2 16 236\nanswer 1 2 20 1.000000000000000000 1.000000000000000000 1\n"
     b"accepted 1 2 20 1.000000000000000000\n"
 )
+LATER_ANSWER = b"timed 1 3 3 10 1.000000000000000000 1.000000000000000000 1\n"
 
 
 def play(folder, words, stdout=subprocess.PIPE, before=None, wait=120):
@@ -68,7 +71,8 @@ class InFolder(unittest.TestCase):
     def setUp(self):
         self.at = tempfile.TemporaryDirectory()
         self.folder = self.at.name
-        for name, data in [("graph", GRAPH), ("hists", HISTS), ("script", SCRIPT)]:
+        for name, data in [("graph", GRAPH), ("hists", HISTS), ("later", LATER),
+                           ("script", SCRIPT)]:
             self.write(name, data)
         os.mkdir(self.path("folder"))
 
@@ -101,15 +105,29 @@ class Hostile(InFolder):
         self.write("plan", PLAN)
         self.wants(REPLAY, DONE, TRIPS)
         self.wants(MAKE, DONE, MADE)
+        self.wants(TIMED, DONE, LATER_ANSWER)
 
     def test_words(self):
         """Words that are no command, and words that are not UTF-8."""
         for words in ([], ["ask"], ASK + ["1"], ["Ask"] + ASK[1:], ASK[:5] + ["x"], [""], ["run"],
                       REPLAY[:5], REPLAY[:4] + ["1000001", "7"], REPLAY[:5] + ["4294967296"],
-                      MAKE[:5], MAKE[:2] + ["1", "2", "1", "20"], MAKE + ["1"]):
+                      MAKE[:5], MAKE[:2] + ["1", "2", "1", "20"], MAKE + ["1"],
+                      TIMED[:6], TIMED[:8], TIMED[:5] + ["2", "hists"], TIMED + ["8", "later"],
+                      TIMED + [word for start in range(9, 40) for word in (str(start), "later")]):
             self.wants(words, WORDS, b"refused words\n")
         for words in ([b"\xff"], ["ask", "graph", b"\xfe\xff", "1", "3", "2"]):
             self.wants(words, NO_WORDS, b"")
+
+    def test_timed_asks_that_are_too_large(self):
+        """More pairs of a node and a budget, or of broad arcs, than are planned for."""
+        self.write("graph", b"p sp 1000 0\n")
+        ask = ["timed", "graph", "1", "2", "65535", "65535"]
+        self.wants(ask + ["-"], REFUSED, b"refused 1 TimedCells 65536000\n")
+        self.write("graph", b"p sp 2 20\n" + 20 * b"a 1 2 1\n")
+        rows = (f"{arc},{tick},1\n" for arc in range(1, 21) for tick in range(1, 34))
+        self.write("broad", b"arc,tick,mass/33\n" + "".join(rows).encode())
+        periods = [word for start in range(1, 32) for word in (str(start), "broad")]
+        self.wants(ask + ["broad"] + periods, REFUSED, b"refused 1 TimedBroad 41964160\n")
 
     def test_inputs_that_cannot_be_read(self):
         """A file that is not there, a folder, an empty name, a name that is far too long."""
@@ -119,6 +137,7 @@ class Hostile(InFolder):
             self.wants(["run", "graph", "hists", name], UNREAD, b"")
             self.wants(["check", "graph", "hists", name], UNREAD, b"")
             self.wants(["replay", "graph", "hists", name, "1", "1"], UNREAD, b"")
+            self.wants(TIMED[:8] + [name], UNREAD, b"")
 
     def test_a_file_without_leave_to_read(self):
         """A file that the user may not read."""
@@ -130,7 +149,7 @@ class Hostile(InFolder):
     def test_outputs_that_fail(self):
         """A full device, a pipe that nobody reads, and no output at all."""
         self.write("plan", PLAN)
-        for words in (ASK, RUN, REPLAY, MAKE, ["nonsense"],
+        for words in (ASK, RUN, REPLAY, MAKE, TIMED, ["nonsense"],
                       ["ask", "folder/x", "-", "1", "3", "2"]):
             status = UNREAD if "folder/x" in words else UNWRITTEN
             with open("/dev/full", "wb") as full:

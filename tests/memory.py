@@ -82,6 +82,7 @@ CASES = [
     ("check", ["check", "graph", "hists", "policy"]),
     ("replay", ["replay", "graph", "hists", "policy", "100", "7"]),
     ("make", ["make", "7", "40", "120", "12", "180"]),
+    ("timed", ["timed", "graph", "1", "3", "3", "10", "hists", "8", "hists"]),
 ]
 LARGE = [("large", ["make", "7", "400", "1200", "120", "1800"])]
 ALWAYS = 2**63
