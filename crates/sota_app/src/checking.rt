@@ -9,8 +9,8 @@ ghost use Rattle.sota_app.specs.Verdicts.{enclosed_line, bracket_rejected_line};
 ghost use Rattle.sota_app.specs.Verdicts.{bracket_verdict_line};
 ghost use Rattle.sota_app.specs.Verdicts.{trips_line, verdict_line, replay_line, verdict_status};
 
+use crate::line::LineOut;
 use crate::output::write_line;
-use crate::reply::push_count;
 use crate::status::Status;
 use crate::stop::Stop;
 use crate::words::Trips;
@@ -20,7 +20,7 @@ use sota_network::Network;
 use sota_polfile::{BracketTable, PolicyTable};
 use sota_replay::{Tally, Words, trips};
 use sota_text::TextOut;
-use sota_units::{NoMemory, grain_text};
+use sota_units::NoMemory;
 use std::alloc::Global;
 
 /// Judges a policy on a network, and writes the verdict.
@@ -112,72 +112,55 @@ fn reject<O: Sink>(alloc: Global, cause: Rejection, out: &mut O) -> Result<Statu
 fn accepted_text(alloc: Global, certified: &Certified) -> Result<TextOut, NoMemory>
     ensures { IfOk result (λ text. text ≡ accepted_line certified.now) }
 {
-    let mut text = TextOut::new(alloc);
-    text.bytes(b"accepted ")?;
-    text.number(u128::from(certified.origin.get()))?;
-    text.bytes(b" ")?;
-    text.number(u128::from(certified.dest.get()))?;
-    text.bytes(b" ")?;
-    text.number(u128::from(certified.budget))?;
-    text.bytes(b" ")?;
-    text.bytes(&grain_text(certified.lower))?;
-    text.bytes(b"\n")?;
-    Ok(text)
+    let mut line = LineOut::new(alloc, b"accepted")?;
+    line.number(u64::from(certified.origin.get()))?;
+    line.number(u64::from(certified.dest.get()))?;
+    line.number(u64::from(certified.budget))?;
+    line.grain(certified.lower)?;
+    line.end()
 }
 
 /// The line `enclosed O D T LOWER UPPER`.
 fn enclosed_text(alloc: Global, bracketed: &Bracketed) -> Result<TextOut, NoMemory>
     ensures { IfOk result (λ text. text ≡ enclosed_line bracketed.now) }
 {
-    let mut text = TextOut::new(alloc);
-    text.bytes(b"enclosed ")?;
-    text.number(u128::from(bracketed.origin.get()))?;
-    text.bytes(b" ")?;
-    text.number(u128::from(bracketed.dest.get()))?;
-    text.bytes(b" ")?;
-    text.number(u128::from(bracketed.budget))?;
-    text.bytes(b" ")?;
-    text.bytes(&grain_text(bracketed.lower))?;
-    text.bytes(b" ")?;
-    text.bytes(&grain_text(bracketed.upper))?;
-    text.bytes(b"\n")?;
-    Ok(text)
+    let mut line = LineOut::new(alloc, b"enclosed")?;
+    line.number(u64::from(bracketed.origin.get()))?;
+    line.number(u64::from(bracketed.dest.get()))?;
+    line.number(u64::from(bracketed.budget))?;
+    line.grain(bracketed.lower)?;
+    line.grain(bracketed.upper)?;
+    line.end()
 }
 
 /// The line `rejected CAUSE`, with the node and the budget where the cause has them.
 fn bracket_rejected_text(alloc: Global, cause: BracketRejection) -> Result<TextOut, NoMemory>
     ensures { IfOk result (λ text. text ≡ bracket_rejected_line cause) }
 {
-    let mut text = TextOut::new(alloc);
-    text.bytes(b"rejected ")?;
-    text.bytes(cause.word())?;
-    push_count(&mut text, cause.node().map(u64::from))?;
-    push_count(&mut text, cause.budget().map(u64::from))?;
-    text.bytes(b"\n")?;
-    Ok(text)
+    let mut line = LineOut::new(alloc, b"rejected")?;
+    line.word(cause.word())?;
+    line.count(cause.node().map(u64::from))?;
+    line.count(cause.budget().map(u64::from))?;
+    line.end()
 }
 
 /// The line `rejected CAUSE`, with the node and the budget of a cause that has them.
 fn rejected_text(alloc: Global, cause: Rejection) -> Result<TextOut, NoMemory>
     ensures { IfOk result (λ text. text ≡ rejected_line cause) }
 {
-    let mut text = TextOut::new(alloc);
-    text.bytes(b"rejected ")?;
-    text.bytes(cause.word())?;
-    push_entry(&mut text, cause.entry())?;
-    text.bytes(b"\n")?;
-    Ok(text)
+    let mut line = LineOut::new(alloc, b"rejected")?;
+    line.word(cause.word())?;
+    push_entry(&mut line, cause.entry())?;
+    line.end()
 }
 
-/// Appends a node and a budget, each after a space, where there are any.
-fn push_entry(text: &mut TextOut, entry: Option<(u32, u32)>) -> Result<(), NoMemory>
-    ensures { OnOk result (text.new ≡ text.old ++ entry_text entry) }
+/// Appends a node and a budget, where there are any.
+fn push_entry(line: &mut LineOut, entry: Option<(u32, u32)>) -> Result<(), NoMemory>
+    ensures { OnOk result (line.new ≡ line.old ++ entry_text entry) }
 {
     if let Some((node, budget)) = entry {
-        text.bytes(b" ")?;
-        text.number(u128::from(node))?;
-        text.bytes(b" ")?;
-        text.number(u128::from(budget))?;
+        line.number(u64::from(node))?;
+        line.number(u64::from(budget))?;
     }
     Ok(())
 }
@@ -186,17 +169,15 @@ fn push_entry(text: &mut TextOut, entry: Option<(u32, u32)>) -> Result<(), NoMem
 fn trips_text(alloc: Global, count: u32, tally: &Tally) -> Result<TextOut, NoMemory>
     ensures { IfOk result (λ text. text ≡ trips_line count tally.now) }
 {
-    let mut text = TextOut::new(alloc);
-    text.bytes(b"trips ")?;
-    text.number(u128::from(count))?;
-    text.bytes(b" arrived ")?;
-    text.number(u128::from(tally.arrived))?;
-    text.bytes(b" late ")?;
-    text.number(u128::from(tally.late))?;
-    text.bytes(b" stuck ")?;
-    text.number(u128::from(tally.stuck))?;
-    text.bytes(b" lost ")?;
-    text.number(u128::from(tally.lost))?;
-    text.bytes(b"\n")?;
-    Ok(text)
+    let mut line = LineOut::new(alloc, b"trips")?;
+    line.number(u64::from(count))?;
+    line.word(b"arrived")?;
+    line.number(u64::from(tally.arrived))?;
+    line.word(b"late")?;
+    line.number(u64::from(tally.late))?;
+    line.word(b"stuck")?;
+    line.number(u64::from(tally.stuck))?;
+    line.word(b"lost")?;
+    line.number(u64::from(tally.lost))?;
+    line.end()
 }

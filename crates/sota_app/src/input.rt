@@ -3,6 +3,7 @@ ghost use Rattle.std.specs.Prelude.{◌≡◌, IfOk};
 ghost use Rattle.sota_app.specs.InputFaults.{input_word, input_limit};
 ghost use Rattle.sota_app.specs.InputFaults.{fault_input, fault_word, fault_place, fault_line};
 
+use crate::line::LineOut;
 use sota_dimacs::GraphFault;
 use sota_histcsv::HistFileFault;
 use sota_polfile::{POLICY_LIMIT, PolicyFault};
@@ -122,14 +123,10 @@ impl InputFault {
     pub fn line(self, alloc: Global) -> Result<TextOut, NoMemory>
         ensures { IfOk result (λ text. text ≡ fault_line self) }
     {
-        let mut text = TextOut::new(alloc);
-        text.bytes(b"refused ")?;
-        text.bytes(self.input().word())?;
-        text.bytes(b" ")?;
-        text.bytes(self.word())?;
-        text.bytes(b" ")?;
-        text.number(u128::from(self.place()))?;
-        text.bytes(b"\n")?;
-        Ok(text)
+        let mut line = LineOut::new(alloc, b"refused")?;
+        line.word(self.input().word())?;
+        line.word(self.word())?;
+        line.number(self.place())?;
+        line.end()
     }
 }

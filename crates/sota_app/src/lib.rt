@@ -5,6 +5,7 @@ mod checking;
 mod input;
 mod inputs;
 pub mod laws;
+mod line;
 mod output;
 mod periods;
 mod player;

@@ -1,12 +1,13 @@
 // Replies to lines, and their texts.
-ghost use Rattle.std.specs.Prelude.{◌≡◌, ◌++◌, IfOk, OnOk, option_map};
+ghost use Rattle.std.specs.Prelude.{◌≡◌, IfOk, option_map};
 ghost use Rattle.sota_app.specs.Replies.{is_shortage, refusal_word, refusal_count};
-ghost use Rattle.sota_app.specs.Replies.{number_text, count_text, answer_line, edited_line};
+ghost use Rattle.sota_app.specs.Replies.{answer_line, edited_line};
 ghost use Rattle.sota_app.specs.Replies.{closed_line, stored_line, route_line, refused_line};
 ghost use Rattle.sota_app.specs.Replies.{allowance_line};
 ghost use Rattle.sota_app.specs.Replies.{reply_line, report_of, reply_file, is_refusal};
 ghost use Rattle.sota_app.specs.declared.reply.Reply.TheVariants.{Answered, Routed, Allowed};
 
+use crate::line::LineOut;
 use sota_hist::HistFault;
 use sota_quantile::{Need, NeedFault};
 use sota_report::{Reply as Report, ResolveFault, Text};
@@ -14,7 +15,7 @@ use sota_route::{RouteAnswer, RouteFault};
 use sota_script::{FileName, LineFault};
 use sota_session::{Answer, Ask, AskFault, EditFault};
 use sota_text::TextOut;
-use sota_units::{ArcId, Grain, Items, NoMemory, NodeId, grain_text};
+use sota_units::{ArcId, Grain, Items, NoMemory, NodeId};
 use std::alloc::Global;
 
 /// A file that is to be stored.
@@ -201,133 +202,83 @@ impl Refusal {
     }
 }
 
-/// Appends a number, or a dash.
-pub fn push_number(text: &mut TextOut, number: Option<u32>) -> Result<(), NoMemory>
-    ensures { OnOk result (text.new ≡ text.old ++ number_text number) }
-{
-    match number {
-        Some(number) => text.number(u128::from(number)),
-        None => text.bytes(b"-"),
-    }
-}
-
-/// Appends a count after a space, where there is one.
-pub fn push_count(text: &mut TextOut, count: Option<u64>) -> Result<(), NoMemory>
-    ensures { OnOk result (text.new ≡ text.old ++ count_text count) }
-{
-    if let Some(count) = count {
-        text.bytes(b" ")?;
-        text.number(u128::from(count))?;
-    }
-    Ok(())
-}
-
 /// The line `answer O D T LOWER UPPER ARC`.
 pub fn write_answer(alloc: Global, ask: &Ask, answer: &Answer) -> Result<TextOut, NoMemory>
     ensures { IfOk result (λ text. text ≡ answer_line ask.now answer.now) }
 {
-    let mut text = TextOut::new(alloc);
-    text.bytes(b"answer ")?;
-    text.number(u128::from(ask.origin.get()))?;
-    text.bytes(b" ")?;
-    text.number(u128::from(ask.dest.get()))?;
-    text.bytes(b" ")?;
-    text.number(u128::from(ask.budget))?;
-    text.bytes(b" ")?;
-    text.bytes(&grain_text(answer.lower))?;
-    text.bytes(b" ")?;
-    text.bytes(&grain_text(answer.upper))?;
-    text.bytes(b" ")?;
-    push_number(&mut text, answer.next.map(ArcId::get))?;
-    text.bytes(b"\n")?;
-    Ok(text)
+    let mut line = LineOut::new(alloc, b"answer")?;
+    line.number(u64::from(ask.origin.get()))?;
+    line.number(u64::from(ask.dest.get()))?;
+    line.number(u64::from(ask.budget))?;
+    line.grain(answer.lower)?;
+    line.grain(answer.upper)?;
+    line.number_or_dash(answer.next.map(ArcId::get))?;
+    line.end()
 }
 
 /// The line `edited ARC`.
 fn write_edited(alloc: Global, arc: ArcId) -> Result<TextOut, NoMemory>
     ensures { IfOk result (λ text. text ≡ edited_line arc) }
 {
-    let mut text = TextOut::new(alloc);
-    text.bytes(b"edited ")?;
-    text.number(u128::from(arc.get()))?;
-    text.bytes(b"\n")?;
-    Ok(text)
+    let mut line = LineOut::new(alloc, b"edited")?;
+    line.number(u64::from(arc.get()))?;
+    line.end()
 }
 
 /// The line `closed ARC`.
 fn write_closed(alloc: Global, arc: ArcId) -> Result<TextOut, NoMemory>
     ensures { IfOk result (λ text. text ≡ closed_line arc) }
 {
-    let mut text = TextOut::new(alloc);
-    text.bytes(b"closed ")?;
-    text.number(u128::from(arc.get()))?;
-    text.bytes(b"\n")?;
-    Ok(text)
+    let mut line = LineOut::new(alloc, b"closed")?;
+    line.number(u64::from(arc.get()))?;
+    line.end()
 }
 
 /// The line `stored NAME`.
 fn write_stored(alloc: Global, name: &str) -> Result<TextOut, NoMemory>
     ensures { IfOk result (λ text. text ≡ stored_line name.now) }
 {
-    let mut text = TextOut::new(alloc);
-    text.bytes(b"stored ")?;
-    text.bytes(name.as_bytes())?;
-    text.bytes(b"\n")?;
-    Ok(text)
+    let mut line = LineOut::new(alloc, b"stored")?;
+    line.word(name.as_bytes())?;
+    line.end()
 }
 
 /// The line `route D T LOWER UPPER K`.
 fn write_route(alloc: Global, route: &RouteReply) -> Result<TextOut, NoMemory>
     ensures { IfOk result (λ text. text ≡ route_line route.now) }
 {
-    let mut text = TextOut::new(alloc);
-    text.bytes(b"route ")?;
-    text.number(u128::from(route.dest.get()))?;
-    text.bytes(b" ")?;
-    text.number(u128::from(route.budget))?;
-    text.bytes(b" ")?;
-    text.bytes(&grain_text(route.answer.lower))?;
-    text.bytes(b" ")?;
-    text.bytes(&grain_text(route.answer.upper))?;
-    text.bytes(b" ")?;
-    text.number(u128::from(route.arcs))?;
-    text.bytes(b"\n")?;
-    Ok(text)
+    let mut line = LineOut::new(alloc, b"route")?;
+    line.number(u64::from(route.dest.get()))?;
+    line.number(u64::from(route.budget))?;
+    line.grain(route.answer.lower)?;
+    line.grain(route.answer.upper)?;
+    line.number(route.arcs)?;
+    line.end()
 }
 
 /// The line `need O D CONF TMAX EARLY SURE`.
 fn write_allowance(alloc: Global, allowance: &Allowance) -> Result<TextOut, NoMemory>
     ensures { IfOk result (λ text. text ≡ allowance_line allowance.now) }
 {
-    let mut text = TextOut::new(alloc);
-    text.bytes(b"need ")?;
-    text.number(u128::from(allowance.ask.origin.get()))?;
-    text.bytes(b" ")?;
-    text.number(u128::from(allowance.ask.dest.get()))?;
-    text.bytes(b" ")?;
-    text.bytes(&grain_text(allowance.confidence))?;
-    text.bytes(b" ")?;
-    text.number(u128::from(allowance.ask.budget))?;
-    text.bytes(b" ")?;
-    push_number(&mut text, allowance.need.early)?;
-    text.bytes(b" ")?;
-    push_number(&mut text, allowance.need.sure)?;
-    text.bytes(b"\n")?;
-    Ok(text)
+    let mut line = LineOut::new(alloc, b"need")?;
+    line.number(u64::from(allowance.ask.origin.get()))?;
+    line.number(u64::from(allowance.ask.dest.get()))?;
+    line.grain(allowance.confidence)?;
+    line.number(u64::from(allowance.ask.budget))?;
+    line.number_or_dash(allowance.need.early)?;
+    line.number_or_dash(allowance.need.sure)?;
+    line.end()
 }
 
 /// The line `refused LINE CAUSE`, with the count of a cause that has one.
-fn write_refused(alloc: Global, line: u32, refusal: &Refusal) -> Result<TextOut, NoMemory>
-    ensures { IfOk result (λ text. text ≡ refused_line line refusal.now) }
+fn write_refused(alloc: Global, number: u32, refusal: &Refusal) -> Result<TextOut, NoMemory>
+    ensures { IfOk result (λ text. text ≡ refused_line number refusal.now) }
 {
-    let mut text = TextOut::new(alloc);
-    text.bytes(b"refused ")?;
-    text.number(u128::from(line))?;
-    text.bytes(b" ")?;
-    text.bytes(refusal.word())?;
-    push_count(&mut text, refusal.count())?;
-    text.bytes(b"\n")?;
-    Ok(text)
+    let mut line = LineOut::new(alloc, b"refused")?;
+    line.number(u64::from(number))?;
+    line.word(refusal.word())?;
+    line.count(refusal.count())?;
+    line.end()
 }
 
 /// An answer, as its numbers.

@@ -18,6 +18,7 @@ ghost use Rattle.sota_app.specs.Work.{region_pushes, pushes_unless};
 ghost use Rattle.sota_app.specs.declared.reply.Refusal.TheVariants as refusals;
 
 use crate::checking::check_policy;
+use crate::line::LineOut;
 use crate::output::write_line;
 use crate::player::{refuse, session_ask};
 use crate::reply::{Refusal, write_answer};
@@ -152,17 +153,12 @@ fn made_text(alloc: Global, network: &Network, again: &Reread) -> Result<TextOut
     requires { again.now.len ≡ file_len again.now.table }
     ensures { IfOk result (λ text. text ≡ made_line network.now again.now.table) }
 {
-    let mut text = TextOut::new(alloc);
-    text.bytes(b"made ")?;
-    text.number(u128::from(network.nodes()))?;
-    text.bytes(b" ")?;
-    text.number(u128::from(network.arc_count()))?;
-    text.bytes(b" ")?;
-    text.number(u128::from(again.table.cells()))?;
-    text.bytes(b" ")?;
-    text.number(again.len as u128)?;
-    text.bytes(b"\n")?;
-    Ok(text)
+    let mut line = LineOut::new(alloc, b"made")?;
+    line.number(u64::from(network.nodes()))?;
+    line.number(u64::from(network.arc_count()))?;
+    line.number(again.table.cells())?;
+    line.number(again.len as u64)?;
+    line.end()
 }
 
 /// Writes why the ask is refused. Where memory was wanted nothing is written.

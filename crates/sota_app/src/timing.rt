@@ -5,8 +5,8 @@ ghost use Rattle.sota_app.specs.Outputs.{LineEnds};
 ghost use Rattle.sota_app.specs.TimedLines.{timed_line, untimed_line, planned, planned_line};
 ghost use Rattle.sota_app.specs.TimedLines.{planned_status};
 
+use crate::line::LineOut;
 use crate::output::write_line;
-use crate::reply::{push_count, push_number};
 use crate::status::Status;
 use crate::stop::Stop;
 use crate::words::TimedAsk;
@@ -14,7 +14,7 @@ use sota_edge::Sink;
 use sota_online::BlockSummer;
 use sota_period::{Timed, TimedAnswer, TimedFault, plan_timed};
 use sota_text::TextOut;
-use sota_units::{ArcId, NoMemory, Steps, grain_text};
+use sota_units::{ArcId, NoMemory, Steps};
 use std::alloc::Global;
 use std::sync::ledger::{Blank, Ledger};
 
@@ -85,33 +85,23 @@ fn refuse_timed<O: Sink>(alloc: Global, fault: TimedFault, out: &mut O) -> Resul
 fn timed_text(alloc: Global, asked: &TimedAsk, answer: &TimedAnswer) -> Result<TextOut, NoMemory>
     ensures { IfOk result (λ text. text ≡ timed_line asked.now answer.now) }
 {
-    let mut text = TextOut::new(alloc);
-    text.bytes(b"timed ")?;
-    text.number(u128::from(asked.ask.origin))?;
-    text.bytes(b" ")?;
-    text.number(u128::from(asked.ask.dest))?;
-    text.bytes(b" ")?;
-    text.number(u128::from(asked.ask.budget))?;
-    text.bytes(b" ")?;
-    text.number(u128::from(asked.deadline))?;
-    text.bytes(b" ")?;
-    text.bytes(&grain_text(answer.lower))?;
-    text.bytes(b" ")?;
-    text.bytes(&grain_text(answer.upper))?;
-    text.bytes(b" ")?;
-    push_number(&mut text, answer.next.map(ArcId::get))?;
-    text.bytes(b"\n")?;
-    Ok(text)
+    let mut line = LineOut::new(alloc, b"timed")?;
+    line.number(u64::from(asked.ask.origin))?;
+    line.number(u64::from(asked.ask.dest))?;
+    line.number(u64::from(asked.ask.budget))?;
+    line.number(u64::from(asked.deadline))?;
+    line.grain(answer.lower)?;
+    line.grain(answer.upper)?;
+    line.number_or_dash(answer.next.map(ArcId::get))?;
+    line.end()
 }
 
 /// The line `refused 1 CAUSE`, with the count of a cause that has one.
 fn untimed_text(alloc: Global, fault: TimedFault) -> Result<TextOut, NoMemory>
     ensures { IfOk result (λ text. text ≡ untimed_line fault) }
 {
-    let mut text = TextOut::new(alloc);
-    text.bytes(b"refused 1 ")?;
-    text.bytes(fault.word())?;
-    push_count(&mut text, fault.count())?;
-    text.bytes(b"\n")?;
-    Ok(text)
+    let mut line = LineOut::new(alloc, b"refused 1")?;
+    line.word(fault.word())?;
+    line.count(fault.count())?;
+    line.end()
 }
