@@ -13,6 +13,7 @@ the same line of answer, and `plan_s SECONDS` on standard error.
 
     made SEED NODES ARCS SPAN    a ring and random arcs, each over SPAN ticks (the command `make`)
     roads SEED SIDE WIDTH        a square grid, one road in twenty random over WIDTH ticks
+    avenues SEED SIDE WIDTH      the same, with one-way roads north and south, which is less text
     star NODES                   from node 2 to node 1 straight, or by way of each other node
     city                         the example city, a tick a second
 """
@@ -38,6 +39,7 @@ CASES = [
     ("roads-10k", ("roads", 2, 100, 24), (506, 9091, 4500)),
     ("roads-100k", ("roads", 3, 316, 24), (50001, 75360, 3800)),
     ("roads-900k", ("roads", 4, 930, 8), (432915, 460840, 1300)),
+    ("roads-1M", ("avenues", 5, 1000, 8), (500500, 530530, 1600)),
     ("star", ("star", 916), (2, 1, 65535)),
     ("city", ("city",), (40, 27, 230)),
     ("city-wide", ("city",), (1, 64, 3600)),
@@ -85,15 +87,26 @@ def made(seed, nodes, arcs, span):
     return nodes, scale, out
 
 
-def roads(seed, side, width):
+def both_ways(side, node):
+    """The arcs between a node of a square grid and those east and south of it."""
+    row, column = divmod(node - 1, side)
+    east = [node + 1] if column + 1 < side else []
+    south = [node + side] if row + 1 < side else []
+    ways = [(node, other) for other in east + south]
+    return [end for way in ways for end in (way, way[::-1])]
+
+
+def one_way(side, node):
+    """The same, where who goes along a column goes south in every other one, and else north."""
+    arcs = both_ways(side, node)
+    return [arc for arc in arcs if abs(arc[0] - arc[1]) == 1 or (arc[0] < arc[1]) == (node % 2 == 0)]
+
+
+def roads(seed, side, width, arcs_of=both_ways):
     """A square grid with two arcs a road, one arc in twenty random over `width` ticks."""
     scale, draw, out = 1_000_000, random.Random(seed), []
     for node in range(1, side * side + 1):
-        row, column = divmod(node - 1, side)
-        east = [node + 1] if column + 1 < side else []
-        south = [node + side] if row + 1 < side else []
-        ways = [(node, other) for other in east + south]
-        for tail, head in [end for way in ways for end in (way, way[::-1])]:
+        for tail, head in arcs_of(side, node):
             weight, pairs = draw.randint(5, 60), []
             if draw.random() < 0.05:
                 shares = [draw.random() for _ in range(width)]
@@ -112,7 +125,12 @@ def star(nodes):
     return nodes, 1, out
 
 
-MAKERS = {"made": made, "roads": roads, "star": star}
+def avenues(seed, side, width):
+    """A grid of a million nodes with two arcs a road would be longer than a text may be."""
+    return roads(seed, side, width, one_way)
+
+
+MAKERS = {"made": made, "roads": roads, "avenues": avenues, "star": star}
 
 
 def write(graph, hists, network):
