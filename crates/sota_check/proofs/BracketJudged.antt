@@ -7,7 +7,7 @@ use Rattle.sota_hist.specs.Time.{is_closed, least_tick, least_of}
 use Rattle.sota_network.specs.Network.{Net, arc_at}
 use Rattle.sota_network.specs.Grid.{plain_sum}
 use Rattle.sota_network.specs.declared.network.Arc.{Arc}
-use Rattle.sota_polfile.specs.Bracket.{Bracket, row_of, bracket_entry_of}
+use Rattle.sota_polfile.specs.Bracket.{Bracket, bracket_row_of, bracket_entry_of}
 use Rattle.sota_polfile.specs.declared.bracket_entry.BracketEntry.{BracketEntry}
 use Rattle.sota_polfile.specs.declared.bracket_row.BracketRow.{BracketRow}
 use Rattle.sota_polfile.specs.declared.entry.PolicyEntry.{PolicyEntry}
@@ -17,7 +17,7 @@ use Rattle.sota_check.specs.declared.bracket_verdict.BracketRejection.TheVariant
 use Rattle.sota_check.specs.Certified.{HoldsBy}
 use Rattle.sota_check.specs.Bracketed.{lower_entry, lower_entries, lower, first_at, upper, IsBracketed}
 use Rattle.sota_check.specs.Rejected.{entry_fault, first_cause}
-use Rattle.sota_check.specs.BracketRejected.{is_steep, steep_node, of_lower, exceeds, upper_fault, bracket_entry_fault, bracket_row_fault, bracket_rejection}
+use Rattle.sota_check.specs.BracketRejected.{is_steep, steep_node, of_lower, exceeds, upper_fault, bracket_entry_fault, bracket_row_rejection, bracket_rejection}
 use Rattle.sota_check.proofs.Judged.{holds-passes, passes-holds}
 use Rattle.sota_check.proofs.Loops.{passed, clear, either-none}
 use Rattle.sota_check.proofs.Standing.{entry-is, entry-row, entry-place, place-entry}
@@ -148,7 +148,7 @@ module _ (net : Net) (table : Bracket) (i t : ℕ) (entry : BracketEntry) where
 
 module _ (net : Net) (table : Bracket) where
   -- what stands in a row that was passed
-  entry-passed : first_cause (bracket_row_fault net table) 1 table.rows ≡ None → (i t : ℕ) (entry : BracketEntry) → bracket_entry_of table i t ≡ Some entry → bracket_entry_fault net table i t entry ≡ None
+  entry-passed : first_cause (bracket_row_rejection net table) 1 table.rows ≡ None → (i t : ℕ) (entry : BracketEntry) → bracket_entry_of table i t ≡ Some entry → bracket_entry_fault net table i t entry ≡ None
   entry-passed none i t entry at =
       let stands = entry-row table i t entry at in
       let row : BracketRow = stands.0 in
@@ -156,13 +156,13 @@ module _ (net : Net) (table : Bracket) where
       let budget : row.first + (t - row.first) ≡ t = omega (arith, place.0) in
       rw budget at (passed (bracket_entry_fault net table i) row.first (t - row.first) row.entries entry (row-passed i row stands.1) place.1)
     where
-      row-passed : (i : ℕ) (row : BracketRow) → row_of table i ≡ Some row → bracket_row_fault net table i row ≡ None
+      row-passed : (i : ℕ) (row : BracketRow) → bracket_row_of table i ≡ Some row → bracket_row_rejection net table i row ≡ None
       row-passed zero row here = absurd (cc)
       row-passed (suc k) row here =
           let number : 1 + k ≡ suc k = omega arith in
-          rw number at (passed (bracket_row_fault net table) 1 k table.rows row none here)
+          rw number at (passed (bracket_row_rejection net table) 1 k table.rows row none here)
 
-  pub bracketed-if : table.head.nodes ≡ net.nodes → table.head.scale ≡ net.scale → steep_node net table ≡ None → first_cause (bracket_row_fault net table) 1 table.rows ≡ None → IsBracketed net table
+  pub bracketed-if : table.head.nodes ≡ net.nodes → table.head.scale ≡ net.scale → steep_node net table ≡ None → first_cause (bracket_row_rejection net table) 1 table.rows ≡ None → IsBracketed net table
   unfolding steep_node
   bracketed-if nodes scale flat none = record {
     certified = record {
@@ -189,12 +189,12 @@ module _ (net : Net) (table : Bracket) where
       upper-next net table i t entry (ap (λ (o : Option Rejection). option_map of_lower o) fine)
       ∙ upper-fine net (upper table) i t (none-any (exceeds (upper table) i t (upper table i t * net.scale)) net.arcs (λ k arc is. most-within (upper table) i t (upper table i t * net.scale) arc (λ tail. holds.uppers i t entry at (suc k) arc is tail)))
 
-  pub entries-clear : IsBracketed net table → first_cause (bracket_row_fault net table) 1 table.rows ≡ None
+  pub entries-clear : IsBracketed net table → first_cause (bracket_row_rejection net table) 1 table.rows ≡ None
   entries-clear holds =
-      clear (bracket_row_fault net table) 1 table.rows (λ k row at.
+      clear (bracket_row_rejection net table) 1 table.rows (λ k row at.
       clear (bracket_entry_fault net table (1 + k)) row.first row.entries (λ j entry here.
       let number : 1 + k ≡ suc k = omega arith in
-      let stands : row_of table (suc k) ≡ Some row = at in
+      let stands : bracket_row_of table (suc k) ≡ Some row = at in
       let there : bracket_entry_of table (suc k) (row.first + j) ≡ Some entry = entry-is table (suc k) (row.first + j) row stands ∙ place-entry row.first j row.entries entry here in
       rw number (entry-clear holds (suc k) (row.first + j) entry there)))
 
@@ -216,7 +216,7 @@ module _ (net : Net) (table : Bracket) where
   unfolding bracket_rejection
   rejected-steep nodes scale node found = rw (eq-eqb table.head.nodes net.nodes nodes, eq-eqb table.head.scale net.scale scale, found) refl
 
-  pub rejected-row : table.head.nodes ≡ net.nodes → table.head.scale ≡ net.scale → steep_node net table ≡ None → bracket_rejection net table ≡ first_cause (bracket_row_fault net table) 1 table.rows
+  pub rejected-row : table.head.nodes ≡ net.nodes → table.head.scale ≡ net.scale → steep_node net table ≡ None → bracket_rejection net table ≡ first_cause (bracket_row_rejection net table) 1 table.rows
   unfolding bracket_rejection
   rejected-row nodes scale flat = rw (eq-eqb table.head.nodes net.nodes nodes, eq-eqb table.head.scale net.scale scale, flat) refl
 

@@ -17,8 +17,9 @@ use Rattle.sota_polfile.specs.declared.bracket_row.BracketRow.{BracketRow}
 use Rattle.sota_polfile.specs.declared.head.PolicyHead.{PolicyHead}
 use Rattle.sota_check.specs.Bracketed.{lower_entry, lower_entries, lower, first_at, upper, IsBracketed}
 use Rattle.sota_check.specs.Planned.{grid_entry, entry_if, IsPlannedBy}
-use Rattle.sota_check.specs.PlannedBracket.{grid_bracket, first_budget, IsPlannedBracket}
-use Rattle.sota_check.proofs.Planning.{IsGrid, plan-holds, plan-bound, region-parts, origin-inside}
+use Rattle.sota_check.specs.PlannedBracket.{grid_bracket, first_budget_by, IsPlannedBracket}
+use Rattle.sota_check.specs.Laws.{IsGrid}
+use Rattle.sota_check.proofs.Planning.{plan-holds, plan-bound, region-parts, origin-inside}
 use Rattle.sota_check.proofs.Standing.{row-there, row-valid, first-is, upper-is, upper-below, upper-dest, entry-upper}
 
 -- what the laws of networks say besides of the upper grid of an ask
@@ -62,7 +63,7 @@ module _ (net : Net) (origin dest last : ℕ) (table : Bracket) (valid : IsNet n
       first-is table dest 0 there.0 there.1 ∙ none
 
   -- who is not reached in time is below its first budget
-  below-first : (i t : ℕ) (to : Option ℕ) → IsLeastTime net dest i dest to → reaches net dest dest i t ≡ false → t ≤ BUDGET_LIMIT → t < first_budget to
+  below-first : (i t : ℕ) (to : Option ℕ) → IsLeastTime net dest i dest to → reaches net dest dest i t ≡ false → t ≤ BUDGET_LIMIT → t < first_budget_by to
   below-first i t None none late small = omega arith
   below-first i t (Some n) least late small =
       ⊎_elim
@@ -76,8 +77,8 @@ module _ (net : Net) (origin dest last : ℕ) (table : Bracket) (valid : IsNet n
       let there = row-there table i is.size node.0 (omega (arith, node.1, nodes)) in
       let row : BracketRow = there.0 in
       let to = planned.firsts i node off in
-      let first : row.first ≡ first_budget to.0 = sym (first-is table i t row there.1) ∙ to.2 in
-      let early : t < first_budget to.0 = below-first i t to.0 to.1 late small in
+      let first : row.first ≡ first_budget_by to.0 = sym (first-is table i t row there.1) ∙ to.2 in
+      let early : t < first_budget_by to.0 = below-first i t to.0 to.1 late small in
       upper-is table i t row there.1 (λ same. off (same ∙ dest-is)) ∙ upper-below row t (omega (arith, first, early)) ∙ sym (grid.below i t late)
 
   -- what an entry of the region reads
@@ -106,7 +107,7 @@ module _ (net : Net) (origin dest last : ℕ) (table : Bracket) (valid : IsNet n
   ]
 
   -- a least time is at most a step and the least time after it
-  falls : (arc : Arc) (e : ℕ) → arc_at net e ≡ Some arc → arc.tail ≢ dest → is_closed arc.time ≡ false → (from to : Option ℕ) → IsLeastTime net dest arc.tail dest from → IsLeastTime net dest arc.head dest to → first_budget from ≤ first_budget to + least_tick arc.time
+  falls : (arc : Arc) (e : ℕ) → arc_at net e ≡ Some arc → arc.tail ≢ dest → is_closed arc.time ≡ false → (from to : Option ℕ) → IsLeastTime net dest arc.tail dest from → IsLeastTime net dest arc.head dest to → first_budget_by from ≤ first_budget_by to + least_tick arc.time
   falls arc e at off opened None None from-is to-is = omega arith
   falls arc e at off opened (Some m) None from-is to-is = omega arith
   falls arc e at off opened None (Some n) from-is to-is = absurd (from-is (least_tick arc.time + n) (step e arc at off opened to-is.walk))

@@ -9,7 +9,7 @@ use Rattle.sota_network.specs.Laws.{SumLaws, TickLaws}
 use Rattle.sota_network.specs.Sound.{Covers}
 use Rattle.sota_network.specs.declared.network.Arc.{Arc}
 use Rattle.sota_polfile.specs.Table.{entry_from}
-use Rattle.sota_polfile.specs.Bracket.{Bracket, IsBracket, row_of}
+use Rattle.sota_polfile.specs.Bracket.{Bracket, IsBracket, bracket_row_of}
 use Rattle.sota_polfile.specs.declared.bracket_entry.BracketEntry.{BracketEntry}
 use Rattle.sota_polfile.specs.declared.bracket_row.BracketRow.{BracketRow}
 use Rattle.sota_check.specs.Bracketed.{first_at, upper, IsBracketed}
@@ -53,7 +53,7 @@ module _ (sums : SumLaws) (ticks : TickLaws) (net : Net) (valid : IsNet net) (ar
             (λ u left. head-late arc (first_at table arc.head) fits (omega arith) u (omega (arith, falls, left, early)))
       ]
 
-  elsewhere-by : (i t e : ℕ) (arc : Arc) → i ≢ table.head.dest → arc_at net e ≡ Some arc → arc.tail ≡ i → (row : BracketRow) → row_of table i ≡ Some row → row.first ≤ t → (o : Option BracketEntry) → entry_from row.first row.entries t ≡ o → plain_sum arc (upper table) t ≤ upper table i t * net.scale
+  elsewhere-by : (i t e : ℕ) (arc : Arc) → i ≢ table.head.dest → arc_at net e ≡ Some arc → arc.tail ≡ i → (row : BracketRow) → bracket_row_of table i ≡ Some row → row.first ≤ t → (o : Option BracketEntry) → entry_from row.first row.entries t ≡ o → plain_sum arc (upper table) t ≤ upper table i t * net.scale
   elsewhere-by i t e arc off at tail row here late None none =
       let fits : IsArc net arc = arcs e arc at in
       let whole : upper table i t ≡ ONE = upper-is table i t row here off ∙ upper-by row t late None none in

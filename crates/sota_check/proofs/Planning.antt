@@ -5,32 +5,20 @@ use Rattle.std.proofs.lemmas.Option.{slice_get_cases, slice_get_within}
 use Rattle.std.proofs.Math.Nat.{div-mul-le_self, zero-div}
 use Rattle.sota_units.specs.Rounding.{floor_by}
 use Rattle.sota_network.specs.Network.{Net, arc_at}
-use Rattle.sota_network.specs.Grid.{plain_sum, best_of, best_sum, value_from, lo, hi, choice, choice_of, IsFirstBest}
-use Rattle.sota_network.specs.Walks.{Walk, empty, IsLeastTime}
+use Rattle.sota_network.specs.Grid.{plain_sum, best_sum, lo, choice, choice_of, IsFirstBest}
+use Rattle.sota_network.specs.Walks.{empty, IsLeastTime}
 use Rattle.sota_network.specs.Reach.{reaches, in_region}
 use Rattle.sota_network.specs.Reads.{Reads}
 use Rattle.sota_network.specs.Region.{is_between}
-use Rattle.sota_network.specs.declared.network.Arc.{Arc}
 use Rattle.sota_polfile.specs.declared.entry.PolicyEntry.{PolicyEntry}
 use Rattle.sota_polfile.specs.declared.row.PolicyRow.{PolicyRow}
 use Rattle.sota_polfile.specs.declared.head.PolicyHead.{PolicyHead}
 use Rattle.sota_polfile.specs.Table.{Table, entry_of}
 use Rattle.sota_check.specs.Certified.{Entries, value_by, HoldsBy, IsCertifiedBy}
-use Rattle.sota_check.specs.Planned.{grid_entry, entry_if, ask_head, IsPlannedBy, IsPlanned, AreGridRows, IsGridRow, IsPlanFile}
+use Rattle.sota_check.specs.Laws.{IsGrid}
+use Rattle.sota_check.specs.Planned.{grid_entry, entry_if, ask_head, IsPlannedBy, IsPlannedPolicy, AreGridRows, IsGridRow, IsPlanFile}
 use Rattle.sota_check.proofs.Judged.{AreEntries, StandInRows}
 use Rattle.sota_check.proofs.Keeping.{value-dest, value-elsewhere}
-
--- what the laws of networks say of the lower grid of an ask
-pub record IsGrid (net : Net) (origin dest last : ℕ) : Type 0 where
-  pub lower : (i t : ℕ) → lo net dest i t ≡ value_from floor_by net dest (lo net dest) i t
-  pub order : (i t : ℕ) → lo net dest i t ≤ hi net dest i t
-  pub below : (i t : ℕ) → reaches net dest dest i t ≡ false → hi net dest i t ≡ 0
-  pub reach : (i j t n : ℕ) → Walk net dest i j n → n ≤ t → reaches net dest j i t ≡ true
-  pub made : (i t : ℕ) (table : ℕ → ℕ → ℕ) → i ≢ dest → ((j u : ℕ) → Reads net i t j u → table j u ≡ lo net dest j u) → lo net dest i t ≡ floor_by net.scale (best_sum net table i t)
-  pub chosen : (i t : ℕ) (table : ℕ → ℕ → ℕ) → i ≢ dest → ((j u : ℕ) → Reads net i t j u → table j u ≡ lo net dest j u) → choice net dest i t ≡ choice_of net.arcs (λ arc. plain_sum arc table t) i
-  pub none : (worth : Arc → ℕ) (i : ℕ) → choice_of net.arcs worth i ≡ None → best_of net.arcs worth i ≡ 0
-  pub first : (worth : Arc → ℕ) (i e : ℕ) → choice_of net.arcs worth i ≡ Some e → IsFirstBest net worth i e
-  pub closed : (i t j u : ℕ) → in_region net origin dest last i t ≡ true → Reads net i t j u → (j ≡ dest) ⊎ ((in_region net origin dest last j u ≡ true) ⊎ (reaches net dest dest j u ≡ false))
 
 module _ (net : Net) (origin dest last : ℕ) (head : PolicyHead) (plan : Entries) (grid : IsGrid net origin dest last) (planned : IsPlannedBy net origin dest last head plan) where
   abbrev value : ℕ → ℕ → ℕ
@@ -159,7 +147,7 @@ module _ (net : Net) (origin dest last : ℕ) (table : Table) (are : AreEntries 
       (λ (outside : in_region net origin dest last i t ≡ false). sym (ap (λ (b : Bool). entry_if b (grid_entry net dest i t)) outside))
       (cases_Bool (in_region net origin dest last i t))
 
-  pub plan-made : table.head ≡ ask_head net origin dest last → IsPlanned net origin dest last table
+  pub plan-made : table.head ≡ ask_head net origin dest last → IsPlannedPolicy net origin dest last table
   plan-made head = record { head_is = head; entries = λ i t. entry-by i t (entry_of table i t) refl }
 
 -- the rows of a planner's file are the grid's

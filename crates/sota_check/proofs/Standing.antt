@@ -5,25 +5,25 @@ use Rattle.std.proofs.lemmas.Bool.{eq-eqb, ne_eqb, cases_eq, cases_lt, lt-leb, l
 use Rattle.std.proofs.lemmas.Option.{slice_get_cases, slice_get_within}
 use Rattle.sota_units.specs.Rounding.{ONE}
 use Rattle.sota_polfile.specs.Table.{entry_from}
-use Rattle.sota_polfile.specs.Bracket.{Bracket, IsBracket, IsBracketRow, row_of, bracket_entry_of}
+use Rattle.sota_polfile.specs.Bracket.{Bracket, IsBracket, IsBracketRow, bracket_row_of, bracket_entry_of}
 use Rattle.sota_polfile.specs.declared.bracket_entry.BracketEntry.{BracketEntry}
 use Rattle.sota_polfile.specs.declared.bracket_row.BracketRow.{BracketRow}
 use Rattle.sota_check.specs.Bracketed.{first_at, row_upper, upper}
 
 -- each node has a row
-pub row-there : (table : Bracket) (i : ℕ) → length table.rows ≡ table.head.nodes → 1 ≤ i → i ≤ table.head.nodes → (row : BracketRow) × (row_of table i ≡ Some row)
+pub row-there : (table : Bracket) (i : ℕ) → length table.rows ≡ table.head.nodes → 1 ≤ i → i ≤ table.head.nodes → (row : BracketRow) × (bracket_row_of table i ≡ Some row)
 row-there table zero size some within = absurd (omega arith)
 row-there table (suc k) size some within = elim (slice_get_cases table.rows k).1 [ inl here ↦ (here.0, here.2) | inr past ↦ absurd (omega (arith, past.0, size)) ]
 
-pub row-valid : (table : Bracket) → IsBracket table → (i : ℕ) (row : BracketRow) → row_of table i ≡ Some row → IsBracketRow table.head i row
+pub row-valid : (table : Bracket) → IsBracket table → (i : ℕ) (row : BracketRow) → bracket_row_of table i ≡ Some row → IsBracketRow table.head i row
 row-valid table is zero row at = absurd (cc)
 row-valid table is (suc k) row at = let number : k + 1 ≡ suc k = omega arith in rw number at (is.rows k row at)
 
-pub row-number : (table : Bracket) (i : ℕ) (row : BracketRow) → row_of table i ≡ Some row → (1 ≤ i) × (i ≤ length table.rows)
+pub row-number : (table : Bracket) (i : ℕ) (row : BracketRow) → bracket_row_of table i ≡ Some row → (1 ≤ i) × (i ≤ length table.rows)
 row-number table zero row at = absurd (cc)
 row-number table (suc k) row at = (omega arith, omega (arith, slice_get_within table.rows k row at))
 
-module _ (table : Bracket) (i t : ℕ) (row : BracketRow) (at : row_of table i ≡ Some row) where
+module _ (table : Bracket) (i t : ℕ) (row : BracketRow) (at : bracket_row_of table i ≡ Some row) where
   pub entry-is : bracket_entry_of table i t ≡ entry_from row.first row.entries t
   entry-is = ap (λ (o : Option BracketRow). option_and_then (λ r. entry_from r.first r.entries t) o) at
 
@@ -34,10 +34,10 @@ module _ (table : Bracket) (i t : ℕ) (row : BracketRow) (at : row_of table i �
   upper-is off = rw (ne_eqb i table.head.dest off) (ap (λ (o : Option BracketRow). option_map_or (λ r. row_upper r t) o ONE) at)
 
 -- an entry stands in the row of its node
-pub entry-row : (table : Bracket) (i t : ℕ) (entry : BracketEntry) → bracket_entry_of table i t ≡ Some entry → (row : BracketRow) × (row_of table i ≡ Some row) × (entry_from row.first row.entries t ≡ Some entry)
-entry-row table i t entry at = by (row_of table i) refl
+pub entry-row : (table : Bracket) (i t : ℕ) (entry : BracketEntry) → bracket_entry_of table i t ≡ Some entry → (row : BracketRow) × (bracket_row_of table i ≡ Some row) × (entry_from row.first row.entries t ≡ Some entry)
+entry-row table i t entry at = by (bracket_row_of table i) refl
   where
-    by : (o : Option BracketRow) → row_of table i ≡ o → (row : BracketRow) × (row_of table i ≡ Some row) × (entry_from row.first row.entries t ≡ Some entry)
+    by : (o : Option BracketRow) → bracket_row_of table i ≡ o → (row : BracketRow) × (bracket_row_of table i ≡ Some row) × (entry_from row.first row.entries t ≡ Some entry)
     by None none = absurd (let gone : bracket_entry_of table i t ≡ None = ap (λ (o : Option BracketRow). option_and_then (λ r. entry_from r.first r.entries t) o) none in cc)
     by (Some row) some = (row, some, sym (entry-is table i t row some) ∙ at)
 
@@ -77,10 +77,10 @@ pub upper-whole : (table : Bracket) (i t : ℕ) → upper table i t ≤ ONE
 upper-whole table i t =
     ⊎_elim
     (λ (at : i ≡ table.head.dest). let is : upper table i t ≡ ONE = rw (eq-eqb i table.head.dest at) refl in omega (arith, is))
-    (λ (off : i ≡ table.head.dest → ⊥). by off (row_of table i) refl)
+    (λ (off : i ≡ table.head.dest → ⊥). by off (bracket_row_of table i) refl)
     (cases_eq i table.head.dest)
   where
-    by : (i ≡ table.head.dest → ⊥) → (o : Option BracketRow) → row_of table i ≡ o → upper table i t ≤ ONE
+    by : (i ≡ table.head.dest → ⊥) → (o : Option BracketRow) → bracket_row_of table i ≡ o → upper table i t ≤ ONE
     by off None none = let is : upper table i t ≡ ONE = rw (ne_eqb i table.head.dest off) (ap (λ (o : Option BracketRow). option_map_or (λ r. row_upper r t) o ONE) none) in omega (arith, is)
     by off (Some row) some = omega (arith, upper-is table i t row some off, row-whole row t)
 
@@ -88,7 +88,7 @@ pub upper-dest : (table : Bracket) (i t : ℕ) → i ≡ table.head.dest → upp
 upper-dest table i t at = rw (eq-eqb i table.head.dest at) refl
 
 -- the row that stands at the place of a node
-pub row-read : (table : Bracket) (i : ℕ) (row : BracketRow) → 1 ≤ i → slice_get table.rows (i - 1) ≡ Some row → row_of table i ≡ Some row
+pub row-read : (table : Bracket) (i : ℕ) (row : BracketRow) → 1 ≤ i → slice_get table.rows (i - 1) ≡ Some row → bracket_row_of table i ≡ Some row
 row-read table zero row some at = absurd (omega arith)
 row-read table (suc k) row some at = let place : suc k - 1 ≡ k = omega arith in rw place at at
 

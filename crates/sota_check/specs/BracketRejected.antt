@@ -53,8 +53,8 @@ bracket_entry_fault net table i t entry =
     (upper_fault net (upper table) i t)
 
 -- the cause of the first entry of a node that does not hold
-abbrev pub bracket_row_fault : Net → Bracket → ℕ → BracketRow → Option BracketRejection
-bracket_row_fault net table i row =
+abbrev pub bracket_row_rejection : Net → Bracket → ℕ → BracketRow → Option BracketRejection
+bracket_row_rejection net table i row =
     first_cause (bracket_entry_fault net table i) row.first row.entries
 
 -- the first cause
@@ -63,4 +63,4 @@ bracket_rejection net table =
     if not (table.head.nodes == net.nodes) then Some causes.Size else
     if not (table.head.scale == net.scale) then Some causes.Scale else
     option_or (option_map causes.Potential (steep_node net table))
-    (first_cause (bracket_row_fault net table) 1 table.rows)
+    (first_cause (bracket_row_rejection net table) 1 table.rows)

@@ -8,7 +8,7 @@ use Rattle.sota_network.specs.Network.{Net, arc_at}
 use Rattle.sota_network.specs.Grid.{plain_sum}
 use Rattle.sota_network.specs.declared.network.Arc.{Arc}
 use Rattle.sota_polfile.specs.Table.{entry_from}
-use Rattle.sota_polfile.specs.Bracket.{Bracket, row_of, bracket_entry_of}
+use Rattle.sota_polfile.specs.Bracket.{Bracket, bracket_row_of, bracket_entry_of}
 use Rattle.sota_polfile.specs.declared.bracket_entry.BracketEntry.{BracketEntry}
 use Rattle.sota_polfile.specs.declared.bracket_row.BracketRow.{BracketRow}
 use Rattle.sota_polfile.specs.declared.entry.PolicyEntry.{PolicyEntry}
@@ -36,7 +36,7 @@ bracket_rule table i t = rule_by (lower_entries table) i t
 
 -- the first budget of node i: below it none arrives in time
 abbrev pub first_at : Bracket → ℕ → ℕ
-first_at table i = option_map_or (λ row. row.first) (row_of table i) 0
+first_at table i = option_map_or (λ row. row.first) (bracket_row_of table i) 0
 
 -- the upper value of a row at a budget: 0 below its first, the entry's where there is one, and one
 -- whole where nothing is known. No chance is more than one whole
@@ -49,7 +49,7 @@ row_upper row t =
 abbrev pub upper : Bracket → ℕ → ℕ → ℕ
 upper table i t =
     if i == table.head.dest then ONE else
-    option_map_or (λ row. row_upper row t) (row_of table i) ONE
+    option_map_or (λ row. row_upper row t) (bracket_row_of table i) ONE
 
 -- The lower side holds as a policy does. First budgets fall along an open arc by no more than its
 -- least tick, so that below them no walk arrives: this needs no trust in who left budgets out. And

@@ -17,8 +17,8 @@ abbrev pub value_or_zero : Option PolicyEntry → ℕ
 value_or_zero found = option_map_or (λ entry. entry.value) found 0
 
 -- the value of a row at a budget
-abbrev pub row_value : PolicyRow → ℕ → ℕ
-row_value row t = value_or_zero (entry_for row t)
+abbrev pub claimed_value : PolicyRow → ℕ → ℕ
+claimed_value row t = value_or_zero (entry_for row t)
 
 -- an entry, or none, for each node and budget
 abbrev pub Entries : Type 0

@@ -7,3 +7,4 @@ pub mod PlannedBracket
 pub mod Examples
 pub mod Sides
 pub mod Words
+pub mod Laws

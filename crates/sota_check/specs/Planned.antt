@@ -36,8 +36,8 @@ pub record IsPlannedBy (net : Net) (origin dest last : ℕ) (head : PolicyHead) 
   pub entries : (i t : ℕ) → plan i t
       ≡ entry_if (in_region net origin dest last i t) (grid_entry net dest i t)
 
-abbrev pub IsPlanned : Net → ℕ → ℕ → ℕ → Table → Type 0
-IsPlanned net origin dest last table =
+abbrev pub IsPlannedPolicy : Net → ℕ → ℕ → ℕ → Table → Type 0
+IsPlannedPolicy net origin dest last table =
     IsPlannedBy net origin dest last table.head (entry_of table)
 
 -- the same, row by row: each entry that stands in a row is the grid's and in the region, and each

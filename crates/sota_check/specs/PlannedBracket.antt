@@ -22,14 +22,14 @@ grid_bracket net dest i t = record {
 
 -- the first budget for a least time: that after the last one of all where there is no walk, or none
 -- so short
-abbrev pub first_budget : Option ℕ → ℕ
-first_budget to = option_map_or (λ n. min n (BUDGET_LIMIT + 1)) to (BUDGET_LIMIT + 1)
+abbrev pub first_budget_by : Option ℕ → ℕ
+first_budget_by to = option_map_or (λ n. min n (BUDGET_LIMIT + 1)) to (BUDGET_LIMIT + 1)
 
 -- the head is the ask's, first budgets are the least times, and the entries are the grid's, exactly
 -- in the region. The destination has the first budget 0 and no entry, as in each bracket table
 pub record IsPlannedBracket (net : Net) (origin dest last : ℕ) (table : Bracket) : Type 0 where
   pub head : table.head ≡ ask_head net origin dest last
   pub firsts : (i : ℕ) → IsNode net i → i ≢ dest
-      → (to : Option ℕ) × (IsLeastTime net dest i dest to) × (first_at table i ≡ first_budget to)
+      → (to : Option ℕ) × (IsLeastTime net dest i dest to) × (first_at table i ≡ first_budget_by to)
   pub entries : (i t : ℕ) → bracket_entry_of table i t
       ≡ (if in_region net origin dest last i t then Some (grid_bracket net dest i t) else None)

@@ -43,12 +43,12 @@ abbrev pub row_cause : Net → (ℕ → ℕ → ℕ) → ℕ → PolicyRow → O
 row_cause net v k row = entries_fault net v row.node row.first row.entries
 
 -- the cause of the first entry of these rows that does not hold
-abbrev pub rows_fault : Net → (ℕ → ℕ → ℕ) → List PolicyRow → Option Rejection
-rows_fault net v rows = first_cause (row_cause net v) 0 rows
+abbrev pub rows_rejection : Net → (ℕ → ℕ → ℕ) → List PolicyRow → Option Rejection
+rows_rejection net v rows = first_cause (row_cause net v) 0 rows
 
 -- the first cause: the numbers of nodes, the denominators, and then the entries
 unfoldable pub rejection : Net → Table → Option Rejection
 rejection net table =
     if not (table.head.nodes == net.nodes) then Some Size else
     if not (table.head.scale == net.scale) then Some Scale else
-    rows_fault net (value table) table.rows
+    rows_rejection net (value table) table.rows

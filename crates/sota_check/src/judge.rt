@@ -5,7 +5,7 @@ ghost use Rattle.sota_network.specs.Network.{IsNet};
 ghost use Rattle.sota_network.specs.Trees.{Fits, follow, score};
 ghost use Rattle.sota_polfile.specs.Table.{IsRow, IsTable};
 ghost use Rattle.sota_check.specs.Certified.{value, rule, IsCertified};
-ghost use Rattle.sota_check.specs.Rejected.{entry_fault, entries_fault, rows_fault, rejection};
+ghost use Rattle.sota_check.specs.Rejected.{entry_fault, entries_fault, rows_rejection, rejection};
 
 use crate::sums::{arc_sum, needed};
 use crate::{Certified, Rejection};
@@ -89,7 +89,7 @@ fn named_value(table: &PolicyTable) -> u64
 
 /// The first entry in file order that does not hold.
 fn first_fault(network: &Network, table: &PolicyTable) -> Option<Rejection>
-    ensures { result ≡ rows_fault network.now (value table.now) table.now.rows }
+    ensures { result ≡ rows_rejection network.now (value table.now) table.now.rows }
 {
     for row in table.rows() {
         if let Some(fault) = row_fault(network, table, row) {

@@ -6,12 +6,12 @@ ghost use Rattle.std.specs.List.{list_any};
 ghost use Rattle.sota_units.specs.Rounding.{ONE};
 ghost use Rattle.sota_network.specs.Network.{IsNet, IsNode};
 ghost use Rattle.sota_network.specs.Trees.{Fits, follow, score, Encloses};
-ghost use Rattle.sota_polfile.specs.Bracket.{IsBracket, row_of, bracket_entry_of};
+ghost use Rattle.sota_polfile.specs.Bracket.{IsBracket, bracket_row_of, bracket_entry_of};
 ghost use Rattle.sota_check.specs.Bracketed.{lower, upper, lower_entry, bracket_rule, IsBracketed};
 ghost use Rattle.sota_check.specs.Bracketed.{first_at};
 ghost use Rattle.sota_check.specs.Rejected.{entry_fault, first_cause};
 ghost use Rattle.sota_check.specs.BracketRejected.{is_steep, steep_node, of_lower, exceeds};
-ghost use Rattle.sota_check.specs.BracketRejected.{bracket_entry_fault, bracket_row_fault};
+ghost use Rattle.sota_check.specs.BracketRejected.{bracket_entry_fault, bracket_row_rejection};
 ghost use Rattle.sota_check.specs.BracketRejected.{bracket_rejection};
 
 use crate::bracket_sums::{Side, side_in, side_sum};
@@ -23,9 +23,11 @@ use sota_network::{Arc, Network};
 use sota_polfile::{BracketEntry, BracketRow, BracketTable};
 use sota_units::{ArcId, Grain, NodeId};
 
-/// Whether a bracket table encloses the greatest on-time probability of its ask on a network,
-/// whoever made it. It takes no memory. An entry costs the pairs of each arc from its node within
-/// its budget.
+/// Whether a bracket table holds on a network, whoever made it: its arcs keep its lower bounds up,
+/// none arrives below its first budgets, and no arc exceeds its upper bounds. A table that holds
+/// encloses the greatest on-time probability of its ask, and one that encloses it can still be
+/// rejected. It takes no memory. An entry costs the pairs of each arc from its node within its
+/// budget.
 pub fn check_bracket(network: &Network, table: &BracketTable) -> Result<Bracketed, BracketRejection>
     ensures bracketed { IsOk result ↔ IsBracketed network.now table.now }
     ensures first { IfErr result (λ cause. bracket_rejection network.now table.now ≡ Some cause) }
@@ -152,7 +154,7 @@ fn first_at(table: &BracketTable, node: NodeId) -> u32
 /// The first entry in file order that does not hold.
 fn first_fault(network: &Network, table: &BracketTable) -> Option<BracketRejection>
     requires { table.now.head.nodes ≡ network.now.nodes }
-    ensures { result ≡ first_cause (bracket_row_fault network.now table.now) 1 table.now.rows }
+    ensures { result ≡ first_cause (bracket_row_rejection network.now table.now) 1 table.now.rows }
 {
     for (index, row) in table.rows().iter().enumerate() {
         if let Some(fault) = row_fault(network, table, index as u32 + 1, row) {
@@ -171,8 +173,8 @@ fn row_fault(
 ) -> Option<BracketRejection>
     requires nodes { table.now.head.nodes ≡ network.now.nodes }
     requires table { IsBracket table.now }
-    requires row { row_of table.now node ≡ Some row.now }
-    ensures { result ≡ bracket_row_fault network.now table.now node row.now }
+    requires row { bracket_row_of table.now node ≡ Some row.now }
+    ensures { result ≡ bracket_row_rejection network.now table.now node row.now }
 {
     for (index, entry) in row.entries.as_slice().iter().enumerate() {
         let budget = row.first + index as u32;

@@ -15,7 +15,8 @@ ghost use Rattle.sota_check.specs.Certified.{value, rule, IsCertified};
 ghost use Rattle.sota_check.specs.Rejected.{rejection};
 ghost use Rattle.sota_check.specs.Examples.{triangle_policy};
 ghost use Rattle.sota_check.specs.declared.verdict.Rejection.TheVariants.{Value};
-ghost use Rattle.sota_check.specs.Planned.{IsPlanned, AreGridRows, IsPlanFile, ask_head};
+ghost use Rattle.sota_check.specs.Laws.{IsGrid};
+ghost use Rattle.sota_check.specs.Planned.{IsPlannedPolicy, AreGridRows, IsPlanFile, ask_head};
 
 use sota_network::laws::{
     arcs_by_number, choices_by_worth, covering_values, entries_of_reads, grid_encloses,
@@ -23,6 +24,18 @@ use sota_network::laws::{
     sums_and_scores,
 };
 use sota_polfile::entries_stand_in_rows;
+
+/// The laws of networks that a planner's file rests on.
+fn grid_laws()
+    ensures { (net : Net) (origin dest last : ℕ) → IsNet net → IsGrid net origin dest last }
+{
+    grid_recurs();
+    grid_encloses();
+    reaches_by_walks();
+    entries_of_reads();
+    choices_by_worth();
+    region_closes();
+}
 
 /// The tree of a policy that holds attains its value at every node and budget, and no value is more
 /// than one whole.
@@ -49,10 +62,10 @@ pub fn passed_policies_hold()
 /// The planner's file, and rows of the grid's entries, make the planner's policy.
 pub fn rows_make_plans()
     ensures file { (net : Net) (origin dest last : ℕ) (table : Table) → IsNet net → IsTable table
-        → IsPlanFile net origin dest last table → IsPlanned net origin dest last table }
+        → IsPlanFile net origin dest last table → IsPlannedPolicy net origin dest last table }
     ensures rows { (net : Net) (origin dest last : ℕ) (table : Table) → IsTable table
         → table.head ≡ ask_head net origin dest last
-        → AreGridRows net origin dest last table.rows → IsPlanned net origin dest last table }
+        → AreGridRows net origin dest last table.rows → IsPlannedPolicy net origin dest last table }
 {
     entries_stand_in_rows();
     region_by_least_times();
@@ -61,16 +74,12 @@ pub fn rows_make_plans()
 /// The planner's own policy holds, and the value that it names is the lower value of its ask.
 pub fn plans_hold()
     ensures certified { (net : Net) (origin dest last : ℕ) (table : Table) → IsNet net
-        → IsPlanned net origin dest last table → IsCertified net table }
+        → IsPlannedPolicy net origin dest last table → IsCertified net table }
     ensures bound { (net : Net) (origin dest last : ℕ) (table : Table) → IsNet net
-        → IsPlanned net origin dest last table → value table origin last ≡ lo net dest origin last }
+        → IsPlannedPolicy net origin dest last table
+        → value table origin last ≡ lo net dest origin last }
 {
-    grid_recurs();
-    grid_encloses();
-    reaches_by_walks();
-    entries_of_reads();
-    choices_by_worth();
-    region_closes();
+    grid_laws();
 }
 
 /// The two sides of a bracket table that holds enclose the greatest on-time probability of all
@@ -116,11 +125,10 @@ pub fn planned_brackets_hold()
     arcs_by_number();
     grid_recurs();
     grid_encloses();
-    reaches_by_walks();
     entries_of_reads();
     choices_by_worth();
-    region_closes();
     sums_and_scores();
+    grid_laws();
 }
 
 /// The definitions, computed for a policy of the triangle from 1 to 3 in 3 ticks, as it is and with

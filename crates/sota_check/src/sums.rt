@@ -4,7 +4,7 @@ ghost use Rattle.std.specs.List.{sum_by};
 ghost use Rattle.sota_units.specs.Rounding.{ONE, SCALE_LIMIT};
 ghost use Rattle.sota_hist.specs.Time.{total};
 ghost use Rattle.sota_network.specs.Grid.{plain_sum};
-ghost use Rattle.sota_check.specs.Certified.{value, row_value};
+ghost use Rattle.sota_check.specs.Certified.{value, claimed_value};
 
 use crate::rows::row_near;
 use sota_network::Arc;
@@ -44,7 +44,7 @@ pub(crate) fn whole_sum(pairs: &[(Tick, Mass)]) -> u128
 /// The worth of pairs whose head has this row.
 fn row_sum(row: &PolicyRow, pairs: &[(Tick, Mass)], budget: u32) -> u128
     requires { total pairs.now ≤ SCALE_LIMIT }
-    ensures value { result ≡ sum_by (λ p. p.1 * row_value row.now (budget - p.0)) pairs.now }
+    ensures value { result ≡ sum_by (λ p. p.1 * claimed_value row.now (budget - p.0)) pairs.now }
     ensures within { result < 2 ^ 94 }
 {
     let mut sum = 0;
@@ -57,7 +57,7 @@ fn row_sum(row: &PolicyRow, pairs: &[(Tick, Mass)], budget: u32) -> u128
 
 /// The value of a row at a budget: 0 where it has no entry.
 fn value_in(row: &PolicyRow, budget: u32) -> u64
-    ensures { result ≡ row_value row.now budget }
+    ensures { result ≡ claimed_value row.now budget }
 {
     if budget < row.first {
         return 0;

@@ -3,7 +3,7 @@ use Rattle.std.proofs.Common.{◌≡◌, ℕ, ◌+◌, ◌<◌, ◌≤◌, List,
 use Rattle.std.specs.List.{enumerate_from}
 use Rattle.std.proofs.lemmas.List.Elements.{All-nil, All-push, All-head, All-tail}
 use Rattle.sota_units.specs.Limits.{NODE_LIMIT, ARC_LIMIT}
-use Rattle.sota_dimacs.specs.Graph.{is_node, problem_size_fault, arc_range_fault, or_line_fault, graph_with, graph_text, text_kinds, IsNode, IsGraph, is_content, graph_lines, IsTextOf}
+use Rattle.sota_dimacs.specs.Graph.{is_node_number, problem_size_fault, arc_range_fault, or_line_fault, graph_with, graph_text, text_kinds, IsNodeNumber, IsGraph, is_content, graph_lines, IsTextOf}
 use Rattle.sota_dimacs.specs.declared.graph.RawArc.{RawArc}
 use Rattle.sota_dimacs.specs.declared.graph.RawGraph.{RawGraph}
 use Rattle.sota_dimacs.specs.declared.fault.GraphFault.{GraphFault}
@@ -24,8 +24,8 @@ pub record Counted (problem : Problem) (arcs : List RawArc) : Type 0 where
   pub few_nodes : problem.nodes ≤ NODE_LIMIT
   pub few_arcs : problem.arcs ≤ ARC_LIMIT
   pub announced : length arcs ≤ problem.arcs
-  pub tails : All (λ (arc : RawArc). IsNode problem.nodes arc.tail) arcs
-  pub heads : All (λ (arc : RawArc). IsNode problem.nodes arc.head) arcs
+  pub tails : All (λ (arc : RawArc). IsNodeNumber problem.nodes arc.tail) arcs
+  pub heads : All (λ (arc : RawArc). IsNodeNumber problem.nodes arc.head) arcs
 
 no_fault : (fault : Option GraphFault) (rest : Result RawGraph GraphFault) (graph : RawGraph) → or_line_fault fault rest ≡ Ok graph → (fault ≡ None) × (rest ≡ Ok graph)
 no_fault (Some fault) rest graph e = cc
@@ -46,13 +46,13 @@ sizes_counted number problem e =
 
 pub record ArcFits (problem : Problem) (found : ℕ) (arc : RawArc) : Type 0 where
   pub room : found < problem.arcs
-  pub tail : IsNode problem.nodes arc.tail
-  pub head : IsNode problem.nodes arc.head
+  pub tail : IsNodeNumber problem.nodes arc.tail
+  pub head : IsNodeNumber problem.nodes arc.head
 
-node_is : (nodes node : ℕ) → is_node nodes node ≡ true → IsNode nodes node
+node_is : (nodes node : ℕ) → is_node_number nodes node ≡ true → IsNodeNumber nodes node
 node_is nodes node e = grind arith
 
-is_node_of : (nodes node : ℕ) → IsNode nodes node → is_node nodes node ≡ true
+is_node_of : (nodes node : ℕ) → IsNodeNumber nodes node → is_node_number nodes node ≡ true
 is_node_of nodes node e = grind arith
 
 and_true : (a b : Bool) → (a && b) ≡ true → (a ≡ true) × (b ≡ true)
@@ -62,13 +62,13 @@ and_true false b e = cc
 
 arc_fits : (problem : Problem) (found number : ℕ) (arc : RawArc) → arc_range_fault problem found number arc ≡ None → ArcFits problem found arc
 arc_fits problem found number arc e =
-    elim (is_node problem.nodes arc.tail && is_node problem.nodes arc.head) as (λ b. (is_node problem.nodes arc.tail && is_node problem.nodes arc.head) ≡ b
+    elim (is_node_number problem.nodes arc.tail && is_node_number problem.nodes arc.head) as (λ b. (is_node_number problem.nodes arc.tail && is_node_number problem.nodes arc.head) ≡ b
     → cond b (cond (nat_lt found problem.arcs) None (Some (TooManyArcs number))) (Some (NodeRange number)) ≡ None → ArcFits problem found arc) [
       | false ↦ λ ends e. cc
       | true ↦ λ ends e. elim (nat_lt found problem.arcs) as (λ b. nat_lt found problem.arcs ≡ b → cond b None (Some (TooManyArcs number)) ≡ None → ArcFits problem found arc) [
         | false ↦ λ room e. cc
         | true ↦ λ room e.
-            let both = and_true (is_node problem.nodes arc.tail) (is_node problem.nodes arc.head) ends in
+            let both = and_true (is_node_number problem.nodes arc.tail) (is_node_number problem.nodes arc.head) ends in
             record { room = grind arith; tail = node_is problem.nodes arc.tail both.0; head = node_is problem.nodes arc.head both.1 }
       ] refl e
     ] refl e
@@ -79,8 +79,8 @@ one_more problem arcs arc seen fits = record {
   few_nodes = seen.few_nodes;
   few_arcs = seen.few_arcs;
   announced = omega (arith, length-append arcs (arc ∷ []), fits.room);
-  tails = All-push (λ (arc : RawArc). IsNode problem.nodes arc.tail) arcs arc seen.tails fits.tail;
-  heads = All-push (λ (arc : RawArc). IsNode problem.nodes arc.head) arcs arc seen.heads fits.head;
+  tails = All-push (λ (arc : RawArc). IsNodeNumber problem.nodes arc.tail) arcs arc seen.tails fits.tail;
+  heads = All-push (λ (arc : RawArc). IsNodeNumber problem.nodes arc.head) arcs arc seen.heads fits.head;
 }
 
 -- ---- an accepted text is that of its graph
@@ -178,8 +178,8 @@ answer_valid bytes (Err fault) e = tt
 -- arcs after others, as many as the problem gives
 pub record Expected (problem : Problem) (arcs more : List RawArc) : Type 0 where
   pub all : problem.arcs ≡ length (arcs ++ more)
-  pub tails : All (λ (arc : RawArc). IsNode problem.nodes arc.tail) more
-  pub heads : All (λ (arc : RawArc). IsNode problem.nodes arc.head) more
+  pub tails : All (λ (arc : RawArc). IsNodeNumber problem.nodes arc.tail) more
+  pub heads : All (λ (arc : RawArc). IsNodeNumber problem.nodes arc.head) more
 
 fits_no_fault : (problem : Problem) (found number : ℕ) (arc : RawArc) → ArcFits problem found arc → arc_range_fault problem found number arc ≡ None
 fits_no_fault problem found number arc fits =
@@ -192,8 +192,8 @@ next_expected : (problem : Problem) (arcs more : List RawArc) (arc : RawArc) →
     → Expected problem (arcs ++ arc ∷ []) more × ArcFits problem (length arcs) arc
 next_expected problem arcs more arc h =
     let assoc : (arcs ++ arc ∷ []) ++ more ≡ arcs ++ arc ∷ more = append_assoc arcs (arc ∷ []) more in (
-      record { all = rw assoc h.all; tails = All-tail (λ (arc : RawArc). IsNode problem.nodes arc.tail) arc more h.tails; heads = All-tail (λ (arc : RawArc). IsNode problem.nodes arc.head) arc more h.heads },
-      record { room = omega (arith, h.all, length-append arcs (arc ∷ more)); tail = All-head (λ (arc : RawArc). IsNode problem.nodes arc.tail) arc more h.tails; head = All-head (λ (arc : RawArc). IsNode problem.nodes arc.head) arc more h.heads },
+      record { all = rw assoc h.all; tails = All-tail (λ (arc : RawArc). IsNodeNumber problem.nodes arc.tail) arc more h.tails; heads = All-tail (λ (arc : RawArc). IsNodeNumber problem.nodes arc.head) arc more h.heads },
+      record { room = omega (arith, h.all, length-append arcs (arc ∷ more)); tail = All-head (λ (arc : RawArc). IsNodeNumber problem.nodes arc.tail) arc more h.tails; head = All-head (λ (arc : RawArc). IsNodeNumber problem.nodes arc.head) arc more h.heads },
     )
 
 arcs_accepted : (problem : Problem) (arcs more : List RawArc) (number : ℕ) (lines : List LineKind) → Expected problem arcs more → filter is_content lines ≡ map arc_line more

@@ -21,8 +21,8 @@ use Rattle.sota_dimacs.specs.declared.line.LineKind.TheVariants.{Skipped, Proble
 use Rattle.sota_dimacs.specs.declared.line.LineKind.TheVariants.{Unknown}
 
 -- nodes are numbered from 1
-abbrev pub is_node : ℕ → ℕ → Bool
-is_node nodes node = nat_lt 0 node && nat_le node nodes
+abbrev pub is_node_number : ℕ → ℕ → Bool
+is_node_number nodes node = nat_lt 0 node && nat_le node nodes
 
 -- ---- what several lines hold
 
@@ -46,7 +46,7 @@ problem_size_fault number problem =
 
 abbrev pub arc_range_fault : Problem → ℕ → ℕ → RawArc → Option GraphFault
 arc_range_fault problem found number arc =
-    if is_node problem.nodes arc.tail && is_node problem.nodes arc.head
+    if is_node_number problem.nodes arc.tail && is_node_number problem.nodes arc.head
     then (if nat_lt found problem.arcs then None else Some (TooManyArcs number))
     else Some (NodeRange number)
 
@@ -104,16 +104,16 @@ graph_text bytes = graph_of_lines (text_kinds bytes)
 
 -- ---- graphs
 
-abbrev pub IsNode : ℕ → ℕ → Type 0
-IsNode nodes node = (1 ≤ node) × (node ≤ nodes)
+abbrev pub IsNodeNumber : ℕ → ℕ → Type 0
+IsNodeNumber nodes node = (1 ≤ node) × (node ≤ nodes)
 
 -- a graph within the limits: 1 to 1,000,000 nodes, at most 4,000,000 arcs, and all ends are nodes
 pub record IsGraph (graph : RawGraph) : Type 0 where
   pub some : 1 ≤ graph.nodes
   pub few_nodes : graph.nodes ≤ NODE_LIMIT
   pub few_arcs : length graph.arcs ≤ ARC_LIMIT
-  pub tails : All (λ arc. IsNode graph.nodes arc.tail) graph.arcs
-  pub heads : All (λ arc. IsNode graph.nodes arc.head) graph.arcs
+  pub tails : All (λ arc. IsNodeNumber graph.nodes arc.tail) graph.arcs
+  pub heads : All (λ arc. IsNodeNumber graph.nodes arc.head) graph.arcs
 
 -- neither blank nor a comment
 abbrev pub is_content : LineKind → Bool

@@ -6,7 +6,8 @@ ghost use Rattle.sota_units.specs.Limits.{TEXT_LIMIT};
 ghost use Rattle.sota_units.specs.Memory.{Answers, IsFault};
 ghost use Rattle.sota_dimacs.specs.Words.{is_shortage};
 ghost use Rattle.sota_dimacs.specs.Lines.{line_problem, line_arc};
-ghost use Rattle.sota_dimacs.specs.Graph.{line_fault, problem_line_fault, arc_line_fault, is_node};
+ghost use Rattle.sota_dimacs.specs.Graph.{line_fault, problem_line_fault, arc_line_fault};
+ghost use Rattle.sota_dimacs.specs.Graph.{is_node_number};
 ghost use Rattle.sota_dimacs.specs.Graph.{graph_with, graph_text, IsGraph, IsTextOf};
 ghost use Rattle.sota_dimacs.specs.declared.graph.RawGraph.{RawGraph};
 
@@ -157,7 +158,7 @@ impl Seen {
 
 /// Nodes are numbered from 1.
 fn is_node(nodes: u32, node: NodeId) -> bool
-    ensures { result ≡ is_node nodes node }
+    ensures { result ≡ is_node_number nodes node }
 {
     let node = node.get();
     0 < node && node <= nodes

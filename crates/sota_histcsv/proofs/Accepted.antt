@@ -14,10 +14,10 @@ use Rattle.sota_dimacs.specs.declared.graph.RawGraph.{RawGraph}
 use Rattle.sota_histcsv.specs.declared.entry.Entry.{Entry}
 use Rattle.sota_histcsv.specs.declared.fault.HistFileFault.{HistFileFault}
 use Rattle.sota_histcsv.specs.declared.fault.HistFileFault.TheVariants.{Fields, NoArc, ZeroTick}
-use Rattle.sota_histcsv.specs.Records.{without_mark, text_records, NumberedRecord, numbered_rows, header_scale, entry_by, row_entry, kept, entries_in, is_arc, entry_fault, number_fault, own_fault, repeat_fault, record_fault, first_record_fault}
-use Rattle.sota_histcsv.specs.Histograms.{Contents, contents, contents_after, pairs_at, time_by, time_fault, timed_arc, least_fault, numbered_arcs, timed, hist_net}
+use Rattle.sota_histcsv.specs.Records.{without_mark, text_records, NumberedRecord, numbered_rows, header_scale, entry_by, row_entry, kept, entries_in, is_arc, record_fault_of, number_fault, own_fault, repeat_fault, record_fault, first_record_fault}
+use Rattle.sota_histcsv.specs.Histograms.{Contents, contents, contents_after, arc_pairs, time_by, time_fault, timed_arc, least_fault, numbered_arcs, timed, hist_net}
 use Rattle.sota_histcsv.specs.Kept.{is_at}
-use Rattle.sota_histcsv.specs.Texts.{Gives, IsTextOf}
+use Rattle.sota_histcsv.specs.Texts.{Gives, IsHistTextOf}
 use Rattle.sota_histcsv.proofs.Keeping.{both_none, first_ok, count-cons, are_contents}
 use Rattle.sota_histcsv.proofs.Whole.{whole, text_is, net_read}
 
@@ -32,7 +32,7 @@ right true true tick timeless nowhere e = (refl, refl)
 right false mass tick timeless nowhere e = cc
 
 entry_gives : (arcs : ℕ) (row : NumberedRecord) (entry : Entry) → row_entry row ≡ Some entry
-    → entry_fault arcs entry ≡ None → Gives arcs row
+    → record_fault_of arcs entry ≡ None → Gives arcs row
 entry_gives arcs row entry is none =
     let parts = right (is_arc arcs entry.arc) (entry.mass == 0) (entry.tick == 0) (ZeroTick entry.number) (NoArc entry.number) none in
     let arc : is_arc arcs entry.arc ≡ true = parts.0 in
@@ -153,7 +153,7 @@ none_least sums net known number (arc ∷ raw) same arcs =
     let more = map (timed_arc known) (enumerate_from (number + 1) raw) in
     let here = All-head (IsArc net) (timed_arc known (number, arc)) more arcs in
     let rest = none_least sums net known (number + 1) raw same (All-tail (IsArc net) (timed_arc known (number, arc)) more arcs) in
-    let one = fits sums known.scale number arc.weight (pairs_at known.entries number) here.time (omega (arith, here.total, same)) in
+    let one = fits sums known.scale number arc.weight (arc_pairs known.entries number) here.time (omega (arith, here.total, same)) in
     rw (one, rest) refl
 
 -- ---- an accepted text
@@ -186,7 +186,7 @@ split arcs [] known e = cc
 split arcs (header ∷ rows) known e = split_at arcs header rows (header_scale header) known refl e
 
 pub text_of : RisingIsTime → RisingSums → (bytes : List ℕ) (graph : RawGraph) (net : Net) → IsGraph graph
-    → hist_net bytes graph ≡ Ok net → IsTextOf bytes graph net
+    → hist_net bytes graph ≡ Ok net → IsHistTextOf bytes graph net
 text_of valid sums bytes graph net is e =
     let parts = whole bytes graph net e in
     let known = parts.known in
@@ -214,7 +214,7 @@ whole_net : (net : Net) (nodes : ℕ) (arcs : List Arc) → net.nodes ≡ nodes 
 whole_net net nodes arcs e f = rw (← e, ← f) refl
 
 pub text_accepted : RisingSums → (bytes : List ℕ) (graph : RawGraph) (net : Net)
-    → IsTextOf bytes graph net → hist_net bytes graph ≡ Ok net
+    → IsHistTextOf bytes graph net → hist_net bytes graph ≡ Ok net
 text_accepted sums bytes graph net text =
     let rows = numbered_rows text.rows in
     let known : Contents = record { scale = net.scale; entries = entries_in rows } in

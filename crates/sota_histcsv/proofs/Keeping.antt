@@ -13,7 +13,7 @@ use Rattle.std.proofs.lemmas.List.Sums.{sum_by-cons}
 use Rattle.sota_histcsv.specs.declared.entry.Entry.{Entry}
 use Rattle.sota_histcsv.specs.declared.fault.HistFileFault.{HistFileFault}
 use Rattle.sota_histcsv.specs.declared.fault.HistFileFault.TheVariants.{Fields, NoArc, ZeroTick, RepeatedTick}
-use Rattle.sota_histcsv.specs.Records.{NumberedRecord, numbered_rows, is_scale, scale_in, header_scale, row_entry, kept, entries_in, is_arc, entry_fault, number_fault, own_fault, same_place, repeat_fault, record_fault, first_record_fault}
+use Rattle.sota_histcsv.specs.Records.{NumberedRecord, numbered_rows, is_scale, scale_in, header_scale, row_entry, kept, entries_in, is_arc, record_fault_of, number_fault, own_fault, same_place, repeat_fault, record_fault, first_record_fault}
 use Rattle.sota_histcsv.specs.Histograms.{Contents, fault_first, contents_after, contents}
 use Rattle.sota_histcsv.specs.Kept.{HasNoZero, is_at, AreEntries, NumbersRise}
 use Rattle.sota_histcsv.proofs.Contents.{entries_push}
@@ -74,7 +74,7 @@ checked false mass tick entry e timeless nowhere none is = cc
 above : (n : ℕ) → (n == 0) ≡ false → 1 ≤ n
 above n apart = let no : n ≡ 0 → ⊥ = eqb-false n 0 apart in omega arith
 
-entry_kept : (arcs : ℕ) (entry e : Entry) → entry_fault arcs entry ≡ None
+entry_kept : (arcs : ℕ) (entry e : Entry) → record_fault_of arcs entry ≡ None
     → kept (Some entry) ≡ Some e → HasNoZero e
 entry_kept arcs entry e none is =
     let parts = checked (is_arc arcs entry.arc) (entry.mass == 0) (entry.tick == 0) entry e

@@ -13,7 +13,7 @@ use Rattle.sota_dimacs.specs.declared.graph.RawArc.{RawArc}
 use Rattle.sota_histcsv.specs.declared.entry.Entry.{Entry}
 use Rattle.sota_histcsv.specs.declared.table.Table.{Table}
 use Rattle.sota_histcsv.specs.declared.fault.HistFileFault.TheVariants.{Sum}
-use Rattle.sota_histcsv.specs.Histograms.{Contents, fault_first, tick_pairs, pairs_at, time_by, time_fault, timed_arc, histogram_fault, least_fault, numbered_arcs, timed}
+use Rattle.sota_histcsv.specs.Histograms.{Contents, fault_first, tick_pairs, arc_pairs, time_by, time_fault, timed_arc, histogram_fault, least_fault, numbered_arcs, timed}
 use Rattle.sota_histcsv.specs.Kept.{HasNoZero, is_at, AreEntries, HoldsContents, contents_in}
 
 -- ---- sums over the pairs of an arc are sums over entries
@@ -28,7 +28,7 @@ arc_sum_step weight true entry rest = sum_by-cons weight (entry.tick, entry.mass
 arc_sum_step weight false entry rest = omega arith
 
 arc_sum : (weight : ℕ × ℕ → ℕ) (arc : ℕ) (entries : List Entry)
-    → sum_by weight (pairs_at entries arc) ≡ sum_by (part weight arc) entries
+    → sum_by weight (arc_pairs entries arc) ≡ sum_by (part weight arc) entries
 arc_sum weight arc [] = refl
 arc_sum weight arc (entry ∷ entries) =
     arc_sum_step weight (entry.arc == arc) entry (filter (λ (entry : Entry). entry.arc == arc) entries)
@@ -57,12 +57,12 @@ part_sums arc tick (entry ∷ entries) =
     )
 
 pub arc_once : (entries : List Entry) (arc : ℕ) → AreEntries entries
-    → (tick : ℕ) → count_by (λ (pair : ℕ × ℕ). pair.0 == tick) (pairs_at entries arc) ≤ 1
+    → (tick : ℕ) → count_by (λ (pair : ℕ × ℕ). pair.0 == tick) (arc_pairs entries arc) ≤ 1
 arc_once entries arc kept tick =
     omega (arith, arc_sum (λ (pair : ℕ × ℕ). cond (pair.0 == tick) 1 0) arc entries, part_sums arc tick entries, kept.once arc tick)
 
 arc_chances : (entries : List Entry) (arc : ℕ) → All HasNoZero entries
-    → All (λ (p : ℕ × ℕ). (1 ≤ p.0) × (1 ≤ p.1)) (pairs_at entries arc)
+    → All (λ (p : ℕ × ℕ). (1 ≤ p.0) × (1 ≤ p.1)) (arc_pairs entries arc)
 arc_chances entries arc kept =
     All-map (λ (p : ℕ × ℕ). (1 ≤ p.0) × (1 ≤ p.1)) (λ (entry : Entry). (entry.tick, entry.mass)) (filter (λ (entry : Entry). entry.arc == arc) entries)
     (λ k d under.
@@ -70,9 +70,9 @@ arc_chances entries arc kept =
     (one.tick, one.mass))
 
 pub arc_is_time : RisingIsTime → (entries : List Entry) (arc : ℕ) → AreEntries entries
-    → IsTime (rising (pairs_at entries arc))
+    → IsTime (rising (arc_pairs entries arc))
 arc_is_time valid entries arc kept =
-    valid (pairs_at entries arc) (arc_chances entries arc kept.each) (arc_once entries arc kept)
+    valid (arc_pairs entries arc) (arc_chances entries arc kept.each) (arc_once entries arc kept)
 
 -- ---- another order of the entries
 
@@ -83,18 +83,18 @@ kept_moved entries sorted moved kept = record {
 }
 
 sums_moved : (entries sorted : List Entry) (arc : ℕ) → IsPermutation entries sorted
-    → (weight : ℕ × ℕ → ℕ) → sum_by weight (pairs_at sorted arc) ≡ sum_by weight (pairs_at entries arc)
+    → (weight : ℕ × ℕ → ℕ) → sum_by weight (arc_pairs sorted arc) ≡ sum_by weight (arc_pairs entries arc)
 sums_moved entries sorted arc moved weight =
     arc_sum weight arc sorted ∙ sum_by-IsPermutation (part weight arc) entries sorted moved ∙ sym (arc_sum weight arc entries)
 
 rising_moved : RisingIsTime → RisingSums → SumsDecide → (entries sorted : List Entry) (arc : ℕ)
     → IsPermutation entries sorted → AreEntries entries
-    → rising (pairs_at sorted arc) ≡ rising (pairs_at entries arc)
+    → rising (arc_pairs sorted arc) ≡ rising (arc_pairs entries arc)
 rising_moved valid sums known entries sorted arc moved kept =
-    known (rising (pairs_at sorted arc)) (rising (pairs_at entries arc))
+    known (rising (arc_pairs sorted arc)) (rising (arc_pairs entries arc))
     (arc_is_time valid sorted arc (kept_moved entries sorted moved kept))
     (arc_is_time valid entries arc kept)
-    (λ weight. sums weight (pairs_at sorted arc) ∙ sums_moved entries sorted arc moved weight ∙ sym (sums weight (pairs_at entries arc)))
+    (λ weight. sums weight (arc_pairs sorted arc) ∙ sums_moved entries sorted arc moved weight ∙ sym (sums weight (arc_pairs entries arc)))
 
 record Same (scale number weight : ℕ) (one other : List (ℕ × ℕ)) : Type 0 where
   pub time : time_by scale weight one ≡ time_by scale weight other
@@ -121,7 +121,7 @@ same_arcs : RisingIsTime → RisingSums → SumsDecide → (scale : ℕ) (entrie
     → SameArcs (record { scale = scale; entries = sorted }) (record { scale = scale; entries = entries })
 same_arcs valid sums known scale entries sorted moved kept =
     let same = λ (arc : ℕ × RawArc).
-    same_pairs scale arc.0 arc.1.weight (pairs_at sorted arc.0) (pairs_at entries arc.0)
+    same_pairs scale arc.0 arc.1.weight (arc_pairs sorted arc.0) (arc_pairs entries arc.0)
     (rising_moved valid sums known entries sorted arc.0 moved kept) (sums_moved entries sorted arc.0 moved) in
     record {
       arcs = λ arc. ap (λ (time : List (ℕ × ℕ)). record { tail = arc.1.tail; head = arc.1.head; time = time }) (same arc).time;

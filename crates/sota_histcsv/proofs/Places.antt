@@ -7,7 +7,7 @@ use Rattle.std.proofs.lemmas.List.Elements.{All-nil, All-cons, All-head, All-tai
 use Rattle.sota_hist.specs.Time.{RisesFrom, IsTime}
 use Rattle.sota_histcsv.specs.declared.entry.Entry.{Entry}
 use Rattle.sota_histcsv.specs.Records.{same_place}
-use Rattle.sota_histcsv.specs.Histograms.{tick_pairs, pairs_at}
+use Rattle.sota_histcsv.specs.Histograms.{tick_pairs, arc_pairs}
 use Rattle.sota_histcsv.specs.Kept.{HasNoZero, IsBelow, PlacesRise}
 use Rattle.sota_histcsv.specs.Repeats.{IsBefore, IsByPlace, IsLeastRepeat}
 
@@ -100,7 +100,7 @@ next_above entry entries rise k d under same =
 
 arc_rises : (arc floor : ℕ) (entries : List Entry) → PlacesRise entries → All HasNoZero entries
     → All (λ (entry : Entry). entry.arc ≡ arc → floor < entry.tick) entries
-    → RisesFrom floor (pairs_at entries arc)
+    → RisesFrom floor (arc_pairs entries arc)
 arc_rises arc floor [] rise kept high = tt
 arc_rises arc floor (entry ∷ entries) rise kept high =
     let tail = rise_tail entry entries rise in
@@ -117,5 +117,5 @@ arc_rises arc floor (entry ∷ entries) rise kept high =
     ] refl
 
 pub arc_is_time : (arc : ℕ) (entries : List Entry) → PlacesRise entries → All HasNoZero entries
-    → IsTime (pairs_at entries arc)
+    → IsTime (arc_pairs entries arc)
 arc_is_time arc entries rise kept = arc_rises arc 0 entries rise kept (λ k d under same. (kept k d under).tick)

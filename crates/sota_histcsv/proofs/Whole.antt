@@ -17,7 +17,7 @@ use Rattle.sota_histcsv.specs.declared.table.Table.{Table}
 use Rattle.sota_histcsv.specs.declared.fault.HistFileFault.{HistFileFault}
 use Rattle.sota_histcsv.specs.declared.fault.HistFileFault.TheVariants.{Header, Sum, ZeroTime}
 use Rattle.sota_histcsv.specs.Records.{is_marked, without_mark, text_records}
-use Rattle.sota_histcsv.specs.Histograms.{Contents, contents, pairs_at, time_by, time_fault, timed_arc, histogram_fault, least_fault, numbered_arcs, timed, net_of, hist_net}
+use Rattle.sota_histcsv.specs.Histograms.{Contents, contents, arc_pairs, time_by, time_fault, timed_arc, histogram_fault, least_fault, numbered_arcs, timed, net_of, hist_net}
 use Rattle.sota_histcsv.specs.Kept.{HoldsContents, Tabulates}
 use Rattle.sota_histcsv.proofs.Keeping.{both_none, first_ok, AreContents, are_contents}
 use Rattle.sota_histcsv.proofs.Moved.{arc_is_time}
@@ -59,7 +59,7 @@ all_arcs : RisingIsTime → RisingSums → (net : Net) (known : Contents) (numbe
 all_arcs valid sums net known number [] scale are tails heads none = All-nil (IsArc net)
 all_arcs valid sums net known number (arc ∷ raw) scale are tails heads none =
     let both = both_none (histogram_fault known (number, arc)) (least_fault known (enumerate_from (number + 1) raw)) none in
-    let time = takes sums known.scale number arc.weight (pairs_at known.entries number) are.scale
+    let time = takes sums known.scale number arc.weight (arc_pairs known.entries number) are.scale
     (arc_is_time valid known.entries number are.kept) both.0 in
     let here : IsArc net (timed_arc known (number, arc)) = record {
       tail = All-head (λ (arc : RawArc). IsNode net arc.tail) arc raw tails;

@@ -50,8 +50,8 @@ abbrev pub tick_pairs : List Entry → List (ℕ × ℕ)
 tick_pairs entries = map (λ entry. (entry.tick, entry.mass)) entries
 
 -- those that records give to an arc
-abbrev pub pairs_at : List Entry → ℕ → List (ℕ × ℕ)
-pairs_at entries arc = tick_pairs (filter (λ entry. entry.arc == arc) entries)
+abbrev pub arc_pairs : List Entry → ℕ → List (ℕ × ℕ)
+arc_pairs entries arc = tick_pairs (filter (λ entry. entry.arc == arc) entries)
 
 -- the time of an arc that has these pairs: in rising ticks, or all mass at the arc's weight where
 -- there is none
@@ -70,12 +70,12 @@ abbrev pub timed_arc : Contents → ℕ × RawArc → Arc
 timed_arc known arc = record {
   tail = arc.1.tail;
   head = arc.1.head;
-  time = time_by known.scale arc.1.weight (pairs_at known.entries arc.0);
+  time = time_by known.scale arc.1.weight (arc_pairs known.entries arc.0);
 }
 
 abbrev pub histogram_fault : Contents → ℕ × RawArc → Option HistFileFault
 histogram_fault known arc =
-    time_fault known.scale arc.0 arc.1.weight (pairs_at known.entries arc.0)
+    time_fault known.scale arc.0 arc.1.weight (arc_pairs known.entries arc.0)
 
 -- the fault of the least arc that has one
 abbrev pub least_fault : Contents → List (ℕ × RawArc) → Option HistFileFault

@@ -90,15 +90,15 @@ entries_in rows = filter_map (λ row. kept (row_entry row)) rows
 abbrev pub is_arc : ℕ → ℕ → Bool
 is_arc arcs arc = nat_lt 0 arc && nat_le arc arcs
 
-abbrev pub entry_fault : ℕ → Entry → Option HistFileFault
-entry_fault arcs entry =
+abbrev pub record_fault_of : ℕ → Entry → Option HistFileFault
+record_fault_of arcs entry =
     if is_arc arcs entry.arc
     then (if not (entry.mass == 0) && (entry.tick == 0) then Some (ZeroTick entry.number) else None)
     else Some (NoArc entry.number)
 
 abbrev pub number_fault : ℕ → ℕ → Option Entry → Option HistFileFault
 number_fault arcs number None = Some (Number number)
-number_fault arcs number (Some entry) = entry_fault arcs entry
+number_fault arcs number (Some entry) = record_fault_of arcs entry
 
 -- what is wrong with a record by itself, in a graph of so many arcs
 abbrev pub own_fault : ℕ → NumberedRecord → Option HistFileFault

@@ -21,7 +21,7 @@ pub record Gives (arcs : ℕ) (row : NumberedRecord) : Type 0 where
 -- at most one byte order mark; a header with the scale of the network; records that each give a
 -- mass, no two of them a positive one to the same tick of the same arc. The network has the nodes
 -- and arcs of the graph, each arc the time that the records give it, or else its weight
-pub record IsTextOf (bytes : List ℕ) (graph : RawGraph) (net : Net) : Type 0 where
+pub record IsHistTextOf (bytes : List ℕ) (graph : RawGraph) (net : Net) : Type 0 where
   pub plain : is_marked (without_mark bytes) ≡ false
   pub header : List (List ℕ)
   pub rows : List (List (List ℕ))

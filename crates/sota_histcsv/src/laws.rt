@@ -6,7 +6,7 @@ ghost use Rattle.sota_dimacs.specs.declared.graph.RawGraph.{RawGraph};
 ghost use Rattle.sota_network.specs.Network.{Net, IsNet};
 ghost use Rattle.sota_histcsv.specs.Certain.{certain_net};
 ghost use Rattle.sota_histcsv.specs.Histograms.{hist_net};
-ghost use Rattle.sota_histcsv.specs.Texts.{IsTextOf};
+ghost use Rattle.sota_histcsv.specs.Texts.{IsHistTextOf};
 
 use sota_hist::laws::order_of_pairs;
 
@@ -23,9 +23,9 @@ pub fn texts_mean_networks()
 /// A histogram text is accepted, and means this network, exactly where it is a text of it.
 pub fn accepted_texts()
     ensures accepted { (bytes : List ℕ) (graph : RawGraph) (net : Net)
-        → IsGraph graph → hist_net bytes graph ≡ Ok net → IsTextOf bytes graph net }
+        → IsGraph graph → hist_net bytes graph ≡ Ok net → IsHistTextOf bytes graph net }
     ensures accepts { (bytes : List ℕ) (graph : RawGraph) (net : Net)
-        → IsTextOf bytes graph net → hist_net bytes graph ≡ Ok net }
+        → IsHistTextOf bytes graph net → hist_net bytes graph ≡ Ok net }
 {
     order_of_pairs();
 }

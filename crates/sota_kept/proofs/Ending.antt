@@ -12,8 +12,8 @@ use Rattle.sota_kept.specs.States.{State, grown_state, prepared_state, missing, 
 use Rattle.sota_kept.specs.TableLists.{TableLists, table_of, state_of}
 use Rattle.sota_kept.specs.Asks.{IsGrown, left_to_push}
 use Rattle.sota_kept.proofs.Preparing.{grown-front}
-use Rattle.sota_kept.specs.Laws.{Lawful, ListLaws}
-use Rattle.sota_kept.proofs.Networks.{items-listed}
+use Rattle.sota_network.specs.Laws.{ListLaws}
+use Rattle.sota_kept.specs.Laws.{Lawful}
 
 pub state-grown : ListLaws → (net : Net) → Lawful net → (origin dest last : ℕ) → last ≤ BUDGET_LIMIT → (old new : TableLists) → AreReady net dest (table_of old) → IsGrown net origin dest last old new
     → ((i : ℕ) → IsNode net i → need net origin dest last i ≤ known_end (table_of new i)) → state_of new ≡ grown_state net origin dest last (state_of old)
@@ -32,7 +32,7 @@ state-grown laws net valid origin dest last within old new ready is met =
     (cases_eq i dest)
     in
     let fronts : new.fronts ≡ listed (λ i. max (front_of (state_of old) i) (needed i)) net.nodes =
-    items-listed laws new.fronts (λ i. max (front_of (state_of old) i) (needed i)) net.nodes is.nodes (λ i low high. front i (low, high)) in
+    laws.items new.fronts (λ i. max (front_of (state_of old) i) (needed i)) net.nodes is.nodes (λ i low high. front i (low, high)) in
     rw (is.to, is.bases, fronts) refl
 
 -- ---- how many entries are left to push

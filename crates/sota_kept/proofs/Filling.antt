@@ -8,7 +8,7 @@ use Rattle.sota_network.specs.Network.{Net, IsNode}
 use Rattle.sota_network.specs.Grid.{lo, hi, choice}
 use Rattle.sota_network.specs.Reads.{Reads}
 use Rattle.sota_kept.specs.Ticks.{END_LIMIT, least_to}
-use Rattle.sota_kept.specs.NodeTables.{NodeTable, Entry, IsNodeTable, IsSettledAt, IsReadyAt, AreReady, IsExtent, known_end, lower_of, upper_of, choice_at, lower_in, upper_in, entry_from, pushed_table, push_at, filled_tables}
+use Rattle.sota_kept.specs.NodeTables.{NodeTable, Entry, IsNodeTable, IsSettledAt, IsReadyAt, AreReady, IsExtent, known_end, lower_of, upper_of, lower_in, upper_in, entry_from, pushed_table, push_at, filled_tables}
 use Rattle.sota_kept.specs.Asks.{IsGridEntry}
 use Rattle.sota_kept.specs.Laws.{Lawful}
 use Rattle.sota_kept.proofs.Networks.{arc-valid, hi-at_dest, lo-at_dest}
@@ -41,6 +41,17 @@ pushed_table-last xs x d n b is =
 pushed_table-length : {X : Type 0} → (xs : List X) (x : X) (n b : ℕ) → length xs ≡ n - b → length (xs ++ x ∷ []) ≡ max n b + 1 - b
 pushed_table-length xs x n b is = length-append xs (x ∷ []) ∙ (let z : length xs + 1 ≡ max n b + 1 - b = omega arith in z)
 
+-- what a function says of each of them, it says with one entry more
+pushed_table-all : {X : Type 0} → (xs : List X) (x d : X) (n b : ℕ) (f : ℕ → X) → length xs ≡ n - b → ((t : ℕ) → b ≤ t → t < n → get_or xs (t - b) d ≡ f t) → x ≡ f (max n b) → (t : ℕ) → b ≤ t → t < max n b + 1
+    → get_or (xs ++ x ∷ []) (t - b) d ≡ f t
+pushed_table-all xs x d n b f is before last t low high =
+    ⊎_elim
+    (λ (old : t < n). pushed_table-before xs x d n b t is low old ∙ before t low old)
+    (λ (new : n ≤ t).
+    let at : max n b ≡ t = omega arith in
+    ap (λ (k : ℕ). get_or (xs ++ x ∷ []) (k - b) d) (sym at) ∙ pushed_table-last xs x d n b is ∙ last ∙ ap f at)
+    (cases_lt t n)
+
 -- an entry that is the grid's keeps what is ready
 pub ready-pushed_table : (net : Net) (dest i : ℕ) (s : NodeTable) (e : Entry) → IsReadyAt net dest i s → IsGridEntry net dest i (known_end s) e → known_end s < END_LIMIT → IsReadyAt net dest i (pushed_table e s)
 ready-pushed_table net dest i s e is right room =
@@ -65,36 +76,9 @@ ready-pushed_table net dest i s e is right room =
       settled = record {
         kept = record {
           shape = least-lengths;
-          lower = λ t low high.
-              ⊎_elim
-              (λ (old : t < n).
-              let here : lower_of (pushed_table e s) t ≡ lower_of s t = rw (le-ltb t b low) (pushed_table-before s.lower e.lower 0 n b t shape.lower low old) in
-              here ∙ kept.lower t low old)
-              (λ (new : n ≤ t).
-              let at : t ≡ max n b = omega arith in
-              let here : lower_of (pushed_table e s) t ≡ e.lower = rw (le-ltb t b low) (ap (λ (k : ℕ). get_or (s.lower ++ e.lower ∷ []) (k - b) 0) at ∙ pushed_table-last s.lower e.lower 0 n b shape.lower) in
-              here ∙ right.lower ∙ ap (lo net dest i) (sym at))
-              (cases_lt t n);
-          upper = λ t low high.
-              ⊎_elim
-              (λ (old : t < n).
-              let here : upper_of (pushed_table e s) t ≡ upper_of s t = rw (le-ltb t b low) (pushed_table-before s.upper e.upper 0 n b t shape.upper low old) in
-              here ∙ kept.upper t low old)
-              (λ (new : n ≤ t).
-              let at : t ≡ max n b = omega arith in
-              let here : upper_of (pushed_table e s) t ≡ e.upper = rw (le-ltb t b low) (ap (λ (k : ℕ). get_or (s.upper ++ e.upper ∷ []) (k - b) 0) at ∙ pushed_table-last s.upper e.upper 0 n b shape.upper) in
-              here ∙ right.upper ∙ ap (hi net dest i) (sym at))
-              (cases_lt t n);
-          choice = λ t low high.
-              ⊎_elim
-              (λ (old : t < n).
-              let here : choice_at (pushed_table e s) t ≡ choice_at s t = rw (le-ltb t b low) (pushed_table-before s.choices e.choice None n b t shape.choices low old) in
-              here ∙ kept.choice t low old)
-              (λ (new : n ≤ t).
-              let at : t ≡ max n b = omega arith in
-              let here : choice_at (pushed_table e s) t ≡ e.choice = rw (le-ltb t b low) (ap (λ (k : ℕ). get_or (s.choices ++ e.choice ∷ []) (k - b) None) at ∙ pushed_table-last s.choices e.choice None n b shape.choices) in
-              here ∙ right.choice ∙ ap (choice net dest i) (sym at))
-              (cases_lt t n);
+          lower = λ t low high. rw (le-ltb t b low) (pushed_table-all s.lower e.lower 0 n b (lo net dest i) shape.lower (λ u after old. rw (le-ltb u b after) at (kept.lower u after old)) right.lower t low high);
+          upper = λ t low high. rw (le-ltb t b low) (pushed_table-all s.upper e.upper 0 n b (hi net dest i) shape.upper (λ u after old. rw (le-ltb u b after) at (kept.upper u after old)) right.upper t low high);
+          choice = λ t low high. rw (le-ltb t b low) (pushed_table-all s.choices e.choice None n b (choice net dest i) shape.choices (λ u after old. rw (le-ltb u b after) at (kept.choice u after old)) right.choice t low high);
           below = λ t low. is.settled.empty t (omega arith);
           least = inl based;
         };

@@ -15,8 +15,9 @@ use Rattle.sota_kept.proofs.Standing.{kept-cut}
 use Rattle.sota_kept.proofs.Preparing.{MayKeep, ready-prepared}
 use Rattle.sota_kept.specs.Asks.{IsPrepared}
 use Rattle.sota_kept.proofs.Stating.{state-listed, prepared-state, cells-based}
-use Rattle.sota_kept.specs.Laws.{Lawful, ListLaws}
-use Rattle.sota_kept.proofs.Networks.{NetworkLaws, items-listed, replaced-at}
+use Rattle.sota_network.specs.Laws.{ListLaws}
+use Rattle.sota_kept.specs.Laws.{Lawful}
+use Rattle.sota_kept.proofs.Networks.{NetworkLaws, replaced-at}
 
 -- an edit leaves the numbers of nodes
 pub replaced-nodes : (net : Net) (number : ℕ) (a : Arc) (s0 : ℕ) (time : List (ℕ × ℕ)) → IsEdit net number a s0 time → (replaced net number time).nodes ≡ net.nodes
@@ -46,7 +47,7 @@ pub state-edited : ListLaws → (net : Net) (a : Arc) (s0 : ℕ) (old new : Tabl
     → ((i : ℕ) → IsNode net i → (table_of new i).front ≡ min (table_of old i).front (first_affected net dest a s0 i)) → state_of new ≡ after_edit net a s0 (state_of old)
 state-edited laws net a s0 old new dest at at' bases long each =
     let fronts : new.fronts ≡ listed (λ i. min (front_of (state_of old) i) (first_affected net dest a s0 i)) net.nodes =
-    items-listed laws new.fronts (λ i. min (front_of (state_of old) i) (first_affected net dest a s0 i)) net.nodes long (λ i low high. each i (low, high)) in
+    laws.items new.fronts (λ i. min (front_of (state_of old) i) (first_affected net dest a s0 i)) net.nodes long (λ i low high. each i (low, high)) in
     rw (at, at', bases, fronts) refl
 
 -- ---- an ask

@@ -1,16 +1,14 @@
 -- Networks by their laws.
-use Rattle.std.proofs.Common.{ℕ, suc, ◌≡◌, ◌-◌, ◌<◌, ◌≤◌, true, false, List, [], ◌∷◌, length, get_or, set, slice_get, Some, ⊎_elim, refl, sym, ◌∙◌, subst, arith}
-use Rattle.std.proofs.lemmas.List.{ext_get_or}
+use Rattle.std.proofs.Common.{ℕ, suc, ◌≡◌, ◌-◌, ◌<◌, ◌≤◌, true, false, List, [], ◌∷◌, set, slice_get, Some, ⊎_elim, refl, ◌∙◌, arith}
 use Rattle.std.proofs.lemmas.Bool.{cases_Bool, eq-eqb, ne_eqb}
 use Rattle.sota_units.specs.Rounding.{ONE, floor_by, ceiling_by}
 use Rattle.sota_hist.specs.Time.{is_closed, least_tick}
 use Rattle.sota_network.specs.Network.{Net, IsNet, IsArc, arc_at, replaced}
-use Rattle.sota_network.specs.Numbers.{listed}
 use Rattle.sota_network.specs.Grid.{best_sum, lo, hi}
 use Rattle.sota_network.specs.Walks.{Walk}
 use Rattle.sota_network.specs.Reach.{reaches}
 use Rattle.sota_network.specs.declared.network.Arc.{Arc}
-use Rattle.sota_kept.specs.Laws.{Lawful, ListLaws}
+use Rattle.sota_kept.specs.Laws.{Lawful}
 
 module _ (net : Net) (valid : Lawful net) where
   pub arc-valid : (e : ℕ) (a : Arc) → arc_at net e ≡ Some a → IsArc net a
@@ -63,13 +61,3 @@ timed arc time = record arc { time = time }
 
 pub replaced-at : (net : Net) (k : ℕ) (a : Arc) (time : List (ℕ × ℕ)) → slice_get net.arcs k ≡ Some a → replaced net (suc k) time ≡ record net { arcs = set net.arcs k (timed a time) }
 replaced-at net k a time at = rw (at, replaced) refl
-
--- ---- lists by number
--- a list by its items
-pub items-listed : ListLaws → (xs : List ℕ) (f : ℕ → ℕ) (n : ℕ) → length xs ≡ n → ((i : ℕ) → 1 ≤ i → i ≤ n → get_or xs (i - 1) 0 ≡ f i) → xs ≡ listed f n
-items-listed laws xs f n long each =
-    ext_get_or 0 xs (listed f n) (long ∙ sym (laws.count f n))
-    (λ k less.
-    let at : suc k - 1 ≡ k = omega arith in
-    subst (λ (j : ℕ). get_or xs j 0 ≡ get_or (listed f n) j 0) at
-    (each (suc k) (omega arith) (omega arith) ∙ sym (laws.entry f n (suc k) 0 (omega arith) (omega arith))))

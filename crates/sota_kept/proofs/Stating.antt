@@ -7,8 +7,7 @@ use Rattle.sota_network.specs.Numbers.{listed}
 use Rattle.sota_network.specs.Region.{need}
 use Rattle.sota_kept.specs.Ticks.{least_to}
 use Rattle.sota_kept.specs.NodeTables.{NodeTable, prepared_table, emptied_table, rebased_table}
-use Rattle.sota_kept.specs.Laws.{ListLaws}
-use Rattle.sota_kept.proofs.Networks.{items-listed}
+use Rattle.sota_network.specs.Laws.{ListLaws}
 use Rattle.sota_kept.specs.States.{State, KEPT_LIMIT, front_of, base_of, is_dest, started_state, least_base, based_state, limited_state, prepared_state, cells_kept}
 
 -- a state by its destination, fronts and bases
@@ -20,8 +19,8 @@ pub record StateIs (state : State) (nodes : ℕ) (to : Option ℕ) (fronts bases
 
 pub state-listed : ListLaws → (state : State) (n : ℕ) (dest : Option ℕ) (f g : ℕ → ℕ) → StateIs state n dest f g → state ≡ record { dest = dest; fronts = listed f n; bases = listed g n }
 state-listed laws state n dest f g is =
-    let one : state.fronts ≡ listed f n = items-listed laws state.fronts f n is.long.0 is.front in
-    let two : state.bases ≡ listed g n = items-listed laws state.bases g n is.long.1 is.base in
+    let one : state.fronts ≡ listed f n = laws.items state.fronts f n is.long.0 is.front in
+    let two : state.bases ≡ listed g n = laws.items state.bases g n is.long.1 is.base in
     rw (← is.dest, ← one, ← two) refl
 
 -- ---- the steps of an ask

@@ -1,10 +1,8 @@
--- What networks, and lists by number, state of themselves, in the form in which it is used here.
-use Rattle.std.specs.Prelude.{ℕ, ◌≡◌, ◌≢◌, ◌+◌, ◌-◌, ◌≤◌, ◌⊎◌, ◌↔◌, true, false, List, length}
-use Rattle.std.specs.Prelude.{slice_index_or, None, Some}
+-- What networks state of themselves, in the form in which it is used here.
+use Rattle.std.specs.Prelude.{ℕ, ◌≡◌, ◌≢◌, ◌+◌, ◌≤◌, ◌⊎◌, ◌↔◌, true, false, List, None, Some}
 use Rattle.sota_units.specs.Rounding.{floor_by, ceiling_by}
 use Rattle.sota_hist.specs.Time.{IsTime, total, is_closed, least_tick}
 use Rattle.sota_network.specs.Network.{Net, IsNet, IsArc, arc_at, replaced}
-use Rattle.sota_network.specs.Numbers.{listed}
 use Rattle.sota_network.specs.Grid.{lo, hi, choice, value_from, best_sum, plain_sum}
 use Rattle.sota_network.specs.Grid.{best_of, choice_of, IsFirstBest}
 use Rattle.sota_network.specs.Laws.{SumLaws, TickLaws, RoundLaws}
@@ -61,11 +59,3 @@ pub record Lawful (net : Net) : Type 0 where
       → (j ≡ dest)
       ⊎ ((in_region net origin dest last j u ≡ true) ⊎ (reaches net dest dest j u ≡ false))
   pub dest_need : (origin dest last : ℕ) → need net origin dest last dest ≡ 0
-
--- lists by number
-pub record ListLaws : Type 0 where
-  pub count : (f : ℕ → ℕ) (n : ℕ) → length (listed f n) ≡ n
-  pub entry : (f : ℕ → ℕ) (n i other : ℕ) → 1 ≤ i → i ≤ n
-      → slice_index_or (listed f n) (i - 1) other ≡ f i
-  pub agree : (f g : ℕ → ℕ) (n : ℕ) → ((i : ℕ) → 1 ≤ i → i ≤ n → f i ≡ g i)
-      → listed f n ≡ listed g n

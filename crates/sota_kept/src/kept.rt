@@ -22,7 +22,8 @@ ghost use Rattle.sota_kept.specs.TableLists.{TableLists, AreTables, IsKept, IsSe
 ghost use Rattle.sota_kept.specs.TableLists.{state_of};
 ghost use Rattle.sota_kept.specs.Asks.{IsGridEntry, IsPrepared, IsGrown, left_to_push};
 
-use crate::laws::{list_laws, network_laws};
+use crate::laws::network_laws;
+use sota_network::laws::lists_by_number;
 
 /// What is kept of a node stays right. No entry is right always, and a cut leaves right what was.
 /// The first three steps of an ask make it ready, and an edit that cuts it to its first affected
@@ -154,7 +155,7 @@ pub fn tables_stay_right()
         → IsSettled held net }
 {
     network_laws();
-    list_laws();
+    lists_by_number();
 }
 
 /// Once the needs of an ask are met by extents, the state is that after its last step, and what is
@@ -179,5 +180,5 @@ pub fn asks_end()
         → left_to_push net origin dest last tables ≡ 0 }
 {
     network_laws();
-    list_laws();
+    lists_by_number();
 }

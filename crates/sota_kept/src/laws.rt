@@ -7,7 +7,7 @@ ghost use Rattle.sota_network.specs.declared.network.Arc.{Arc};
 ghost use Rattle.sota_network.specs.Walks.{IsLeastTime};
 ghost use Rattle.sota_network.specs.Reach.{reaches};
 ghost use Rattle.sota_network.specs.Examples.{triangle, barrier};
-ghost use Rattle.sota_kept.specs.Laws.{Lawful, ListLaws};
+ghost use Rattle.sota_kept.specs.Laws.{Lawful};
 ghost use Rattle.sota_kept.specs.Ticks.{END_LIMIT, ticks_to, least_to, up_to};
 ghost use Rattle.sota_kept.specs.States.{first_state, after_ask, after_edit, missing};
 ghost use Rattle.sota_kept.specs.Edits.{first_affected, first_affected_by, IsUnder};
@@ -15,8 +15,7 @@ ghost use Rattle.sota_kept.specs.Edits.{IsEdit, SameAt};
 
 use sota_network::laws::{
     arcs_by_number, choices_by_worth, edits_keep_networks, entries_of_reads, grid_encloses,
-    grid_recurs, lists_by_number, reaches_by_walks, region_by_least_times, region_closes,
-    sums_and_scores,
+    grid_recurs, reaches_by_walks, region_by_least_times, region_closes, sums_and_scores,
 };
 
 /// The laws of networks that are used here.
@@ -33,13 +32,6 @@ pub(crate) fn network_laws()
     region_by_least_times();
     region_closes();
     sums_and_scores();
-}
-
-/// The laws of lists by number that are used here.
-pub(crate) fn list_laws()
-    ensures { ListLaws }
-{
-    lists_by_number();
 }
 
 /// The first budget at which a node is reached is its least time.

@@ -2,7 +2,7 @@
 -- ones.
 use Rattle.std.proofs.Common.{ℕ, zero, suc, ◌≡◌, ◌+◌, ◌-◌, ◌*◌, ◌^◌, ◌/◌, ◌<◌, ◌≤◌, List, [], ◌∷◌, Option, Some, None, refl, sym, ◌∙◌, arith, ⊎_elim, subst}
 use Rattle.std.proofs.lemmas.Bool.{eq-eqb, ne_eqb, cases_eq, cases_lt, le-leb, lt-leb}
-use Rattle.std.proofs.Math.Nat.{mul-le-mul_left, mul-le-mul_right, div-mul-le_self, zero-div}
+use Rattle.std.proofs.Math.Nat.{mul-le-mul_right, div-mul-le_self}
 use Rattle.sota_hist.specs.Time.{RisesFrom}
 use Rattle.sota_network.specs.Network.{Net, IsNet, IsArc, arc_at}
 use Rattle.sota_network.specs.Grid.{weighed, plain_sum, best_sum, lo, choice}
@@ -13,7 +13,8 @@ use Rattle.sota_units.specs.Rounding.{ONE, floor_by}
 use Rattle.sota_network.proofs.Sums.{weighed-in, weighed-out}
 use Rattle.sota_network.proofs.Chosen.{chosen-some, chosen-first}
 use Rattle.sota_network.proofs.Recursion.{arc-valid, follow-is}
-use Rattle.sota_network.proofs.Outward.{power-parts, cancel, score-at_dest, score-go, scores-in, scores-out, scores-end, lo-at_dest, lo-elsewhere}
+use Rattle.sota_network.proofs.Pairs.{power-parts, step-down, close-down, positive-from}
+use Rattle.sota_network.proofs.Outward.{score-at_dest, score-go, scores-in, scores-out, scores-end, lo-at_dest, lo-elsewhere}
 
 -- the choice is none at the destination
 pub choice-at_dest : (net : Net) (dest i t : ℕ) → i ≡ dest → choice net dest i t ≡ None
@@ -105,24 +106,6 @@ module _ (net : Net) (valid : IsNet net) (rule : ℕ → ℕ → Option ℕ) (de
 
   pub fits : (i t : ℕ) → Fits net i (follow net rule dest i t)
   fits i t = fits-below (suc t) i t (omega arith)
-
--- one pair more, outward from below
-step-down : (w m q A B T sc h W rest : ℕ) → T ≡ A * q * B → h * B ≤ w * sc → W * T ≤ w * rest * q → (m * h + W) * T ≤ w * (m * A * sc + rest) * q
-step-down w m q A B T sc h W rest e here more =
-    let times : (m * A * q) * (h * B) ≤ (m * A * q) * (w * sc) = mul-le-mul_left (m * A * q) here in
-    let T-is : m * h * T ≡ (m * A * q) * (h * B) = rw e (omega arith) in
-    omega arith
-
--- a positive quotient is of a positive number
-positive-from : (q x : ℕ) → 0 < floor_by q x → 0 < x
-positive-from q zero h = absurd (let z : 0 / q ≡ 0 = zero-div q in omega arith)
-positive-from q (suc x) h = omega arith
-
--- from the sum over the pairs to the value of the node
-close-down : (w q s C l T : ℕ) → 1 ≤ q → C * T ≤ w * s * q → l * q ≤ C → l * T ≤ w * s
-close-down w q s C l T pos sum floor =
-    let here : (l * q) * T ≤ C * T = mul-le-mul_right T floor in
-    cancel q (l * T) (w * s) pos (omega arith)
 
 module _ (net : Net) (valid : IsNet net) (dest : ℕ) where
   children-attain : (v : ℕ → ℕ) (f : ℕ → ℕ → Tree) (j t floor : ℕ) → ((u : ℕ) → u < t → v u * net.scale ^ u ≤ ONE * score net dest j u (f j u)) → (ps : List (ℕ × ℕ)) → RisesFrom floor ps

@@ -1,10 +1,6 @@
 -- What `by_budget` gives satisfies its step, where the step reads only smaller budgets.
 use Rattle.std.proofs.Common.{ℕ, zero, suc, ◌≡◌, ◌<◌, arith}
-use Rattle.sota_network.specs.Grid.{by_budget, repeated}
-
--- a step that reads only smaller budgets
-abbrev pub Causal : {X : Type 0} → ((ℕ → ℕ → X) → ℕ → ℕ → X) → Type 0
-Causal {X} step = (f g : ℕ → ℕ → X) (i t : ℕ) → ((j u : ℕ) → u < t → f j u ≡ g j u) → step f i t ≡ step g i t
+use Rattle.sota_network.specs.Grid.{Causal, by_budget, repeated}
 
 -- once a budget is settled, more repetitions change nothing at it
 repeated-agree : {X : Type 0} (x : X) (step : (ℕ → ℕ → X) → ℕ → ℕ → X) → Causal step → (k l i u : ℕ) → u < k → u < l → repeated x step k i u ≡ repeated x step l i u

@@ -13,7 +13,8 @@ use Rattle.sota_units.specs.Rounding.{ONE, floor_by, ceiling_by}
 use Rattle.sota_network.proofs.Sums.{weighed-le, weighed-bound}
 use Rattle.sota_network.proofs.Best.{best-le, best-bound}
 use Rattle.sota_network.proofs.Recursion.{arc-valid}
-use Rattle.sota_network.proofs.Outward.{cancel, lo-at_dest, lo-elsewhere, hi-at_dest, hi-elsewhere}
+use Rattle.sota_network.proofs.Pairs.{cancel}
+use Rattle.sota_network.proofs.Outward.{lo-at_dest, lo-elsewhere, hi-at_dest, hi-elsewhere}
 
 -- a quotient is below each bound whose multiple is above the number
 pub quotient-le : (q x n : ℕ) → 1 ≤ q → x < (n + 1) * q → x / q ≤ n

@@ -6,6 +6,9 @@ pub mod Placed
 pub mod Sums
 pub mod Best
 pub mod Bests
+pub mod Among
+pub mod Spans
+pub mod Pairs
 pub mod Budget
 pub mod Recursion
 pub mod Outward

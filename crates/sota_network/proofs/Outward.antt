@@ -1,8 +1,7 @@
 -- No tree scores more than the upper value.
-use Rattle.std.proofs.Common.{ℕ, zero, suc, ◌≡◌, ◌+◌, ◌-◌, ◌*◌, ◌^◌, ◌/◌, ◌%◌, zero-add, ◌<◌, ◌≤◌, List, [], ◌∷◌, Some, refl, ◌∙◌, ap, arith, ⊎_elim}
+use Rattle.std.proofs.Common.{ℕ, ◌≡◌, ◌+◌, ◌-◌, ◌*◌, ◌^◌, ◌/◌, ◌%◌, zero-add, ◌<◌, ◌≤◌, List, [], ◌∷◌, Some, refl, ◌∙◌, arith, ⊎_elim}
 use Rattle.std.proofs.lemmas.Bool.{eq-eqb, ne_eqb, cases_eq, cases_lt, le-leb, lt-leb}
-use Rattle.std.proofs.lemmas.Nat.{pow-add}
-use Rattle.std.proofs.Math.Nat.{mul-le-mul_left, mul-le-mul_right, div-add-mod, mod-lt, pow-suc}
+use Rattle.std.proofs.Math.Nat.{mul-le-mul_right, div-add-mod, mod-lt}
 use Rattle.sota_hist.specs.Time.{RisesFrom}
 use Rattle.sota_network.specs.Network.{Net, IsNet, IsArc, arc_at}
 use Rattle.sota_network.specs.Grid.{weighed, plain_sum, best_sum, lo, hi}
@@ -10,25 +9,10 @@ use Rattle.sota_network.specs.Trees.{Tree, Trees, stop, go, no_trees, tree_then,
 use Rattle.sota_network.specs.Sound.{Covers}
 use Rattle.sota_network.specs.declared.network.Arc.{Arc}
 use Rattle.sota_units.specs.Rounding.{ONE, floor_by, ceiling_by}
+use Rattle.sota_network.proofs.Pairs.{power-parts, step-up, close-up}
 use Rattle.sota_network.proofs.Sums.{weighed-in, weighed-out}
 use Rattle.sota_network.proofs.Best.{best-has_number}
 use Rattle.sota_network.proofs.Recursion.{arc-valid, lo-is, hi-is}
-
--- a power of the scale, parted at one pair
-pub power-parts : (q s t : ℕ) → 1 ≤ s → s ≤ t → q ^ t ≡ q ^ (s - 1) * q * q ^ (t - s)
-power-parts q zero t h k = absurd (omega arith)
-power-parts q (suc a) t h k =
-    let split : t ≡ suc a + (t - suc a) = omega arith in
-    let power : q ^ t ≡ q ^ (suc a) * q ^ (t - suc a) = ap (λ (n : ℕ). q ^ n) split ∙ pow-add q (suc a) (t - suc a) in
-    let first : q ^ (suc a) ≡ q ^ (suc a - 1) * q = pow-suc q a ∙ ap (λ (n : ℕ). q ^ n * q) (let x : a ≡ suc a - 1 = omega arith in x) in
-    power ∙ ap (λ (n : ℕ). n * q ^ (t - suc a)) first
-
--- one pair more, outward from above; A is q ^ (s - 1) and B is q ^ (t - s)
-pub step-up : (w m q A B T sc h W rest : ℕ) → T ≡ A * q * B → w * sc ≤ h * B → w * rest * q ≤ W * T → w * (m * A * sc + rest) * q ≤ (m * h + W) * T
-step-up w m q A B T sc h W rest e here more =
-    let times : (m * A * q) * (w * sc) ≤ (m * A * q) * (h * B) = mul-le-mul_left (m * A * q) here in
-    let T-is : m * h * T ≡ (m * A * q) * (h * B) = rw e (omega arith) in
-    omega arith
 
 -- the ceiling is outward
 pub ceiling-up : (q x : ℕ) → 1 ≤ q → x ≤ ceiling_by q x * q
@@ -36,16 +20,6 @@ ceiling-up q x h =
     let whole : q * ((x + (q - 1)) / q) + (x + (q - 1)) % q ≡ x + (q - 1) = div-add-mod (x + (q - 1)) q in
     let rest : (x + (q - 1)) % q < q = mod-lt (x + (q - 1)) (let y : 0 < q = omega arith in y) in
     omega arith
-
--- a positive factor may go
-pub cancel : (q a b : ℕ) → 1 ≤ q → a * q ≤ b * q → a ≤ b
-cancel q a b h k =
-    ⊎_elim
-    (λ more.
-    let over : (b + 1) * q ≤ a * q = mul-le-mul_right q (let y : b + 1 ≤ a = omega arith in y) in
-    absurd (omega arith))
-    (λ fine. fine)
-    (cases_lt b a)
 
 pub score-at_dest : (net : Net) (dest i t : ℕ) (tree : Tree) → i ≡ dest → score net dest i t tree ≡ net.scale ^ t
 unfolding score
@@ -86,12 +60,6 @@ pub scores-end : (net : Net) (dest j t : ℕ) (trees : Trees) → scores net des
 unfolding score
 scores-end net dest j t no_trees = refl
 scores-end net dest j t (tree_then child rest) = refl
-
--- from the sum over the pairs to the value of the node
-pub close-up : (w q s C h T : ℕ) → 1 ≤ q → w * s * q ≤ C * T → C ≤ h * q → w * s ≤ h * T
-close-up w q s C h T pos sum up =
-    let one : C * T ≤ (h * q) * T = mul-le-mul_right T up in
-    cancel q (w * s) (h * T) pos (omega arith)
 
 module _ (net : Net) (valid : IsNet net) (dest : ℕ) (v : ℕ → ℕ → ℕ) (covers : Covers net dest v) where
   -- who has arrived has one whole

@@ -9,7 +9,8 @@ use Rattle.sota_network.specs.Network.{Net, IsNet, IsArc, arc_at}
 use Rattle.sota_network.specs.Walks.{Walk, empty, step}
 use Rattle.sota_network.specs.Reach.{goes_on, reach_step, reaches}
 use Rattle.sota_network.specs.declared.network.Arc.{Arc}
-use Rattle.sota_network.proofs.Budget.{Causal, by_budget-is}
+use Rattle.sota_network.specs.Grid.{Causal}
+use Rattle.sota_network.proofs.Budget.{by_budget-is}
 
 -- the least tick of an open arc is at least 1
 least-positive : (ps : List (ℕ × ℕ)) → IsTime ps → is_closed ps ≡ false → 1 ≤ least_tick ps

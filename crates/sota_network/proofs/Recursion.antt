@@ -6,13 +6,13 @@ use Rattle.std.proofs.lemmas.Option.{slice_get_within, get_or_from_slice_get}
 use Rattle.std.proofs.lemmas.Bool.{cases_lt, le-leb, lt-leb}
 use Rattle.sota_hist.specs.Time.{RisesFrom}
 use Rattle.sota_network.specs.Network.{Net, IsNet, IsArc, arc_at}
-use Rattle.sota_network.specs.Grid.{plain_sum, best_sum, value_from, lo, hi}
+use Rattle.sota_network.specs.Grid.{Causal, plain_sum, best_sum, value_from, lo, hi}
 use Rattle.sota_network.specs.Trees.{Tree, stop, tree_then, children, go_by, follow_step, follow}
 use Rattle.sota_network.specs.declared.network.Arc.{Arc}
 use Rattle.sota_units.specs.Rounding.{ONE, floor_by, ceiling_by}
 use Rattle.sota_network.proofs.Sums.{weighed-agree}
 use Rattle.sota_network.proofs.Best.{best-agree}
-use Rattle.sota_network.proofs.Budget.{Causal, by_budget-is}
+use Rattle.sota_network.proofs.Budget.{by_budget-is}
 
 -- the greatest plain sum reads only smaller budgets
 pub best-reads : (net : Net) → IsNet net → (f g : ℕ → ℕ → ℕ) (i t : ℕ) → ((j u : ℕ) → u < t → f j u ≡ g j u) → best_sum net f i t ≡ best_sum net g i t

@@ -1,7 +1,7 @@
 -- The grid: for each node and budget two bounds of the on-time probability in units of ten to the
 -- minus eighteenth, and an arc to take. It is a plain recursion over all nodes and budgets, with
 -- the two roundings outward.
-use Rattle.std.specs.Prelude.{ℕ, zero, suc, ◌≡◌, ◌≤◌, ◌-◌, ◌*◌, max, ◌==◌, ◌&&◌}
+use Rattle.std.specs.Prelude.{ℕ, zero, suc, ◌≡◌, ◌<◌, ◌≤◌, ◌-◌, ◌*◌, max, ◌==◌, ◌&&◌}
 use Rattle.std.specs.Prelude.{List, [], ◌∷◌, map, Option, None, Some, if◌then◌else◌}
 use Rattle.std.specs.List.{sum_by, filter}
 use Rattle.sota_units.specs.Rounding.{ONE, floor_by, ceiling_by}
@@ -46,9 +46,14 @@ abbrev pub repeated : {X : Type 0} → X → ((ℕ → ℕ → X) → ℕ → �
 repeated x step zero i t = x
 repeated x step (suc k) i t = step (repeated x step k) i t
 
+-- a step that reads only smaller budgets
+abbrev pub Causal : {X : Type 0} → ((ℕ → ℕ → X) → ℕ → ℕ → X) → Type 0
+Causal {X} step = (f g : ℕ → ℕ → X) (i t : ℕ) → ((j u : ℕ) → u < t → f j u ≡ g j u)
+    → step f i t ≡ step g i t
+
 -- what a step settles that says what stands at node i and budget t from what stands at smaller
 -- budgets: each tick is at least 1, so t + 1 times are enough. That it satisfies the step at every
--- node and budget is proved by `grid_recurs`
+-- node and budget is proved by `grid_recurs`, and of any such step by `steps_settle`
 unfoldable pub by_budget : {X : Type 0} → X → ((ℕ → ℕ → X) → ℕ → ℕ → X) → ℕ → ℕ → X
 by_budget x step i t = repeated x step (suc t) i t
 

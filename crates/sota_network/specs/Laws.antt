@@ -1,11 +1,13 @@
--- What is true of sums over the pairs of a travel time, of ticks, of the two roundings and of
--- scores, whatever the network. `sums_and_scores` says that it is.
+-- What is true of sums over the pairs of a travel time, of ticks, of the two roundings, of scores
+-- and of lists by number, whatever the network. `sums_and_scores`, `scores_by_pairs` and
+-- `lists_by_number` say that it is.
 use Rattle.std.specs.Prelude.{ℕ, ◌≡◌, ◌≢◌, ◌+◌, ◌-◌, ◌*◌, ◌^◌, ◌<◌, ◌≤◌, false, List, [], ◌∷◌}
-use Rattle.std.specs.Prelude.{slice_get, Some}
+use Rattle.std.specs.Prelude.{length, slice_get, slice_index_or, Some}
 use Rattle.std.specs.List.{All}
 use Rattle.sota_units.specs.Rounding.{floor_by, ceiling_by}
 use Rattle.sota_hist.specs.Time.{RisesFrom, IsTime, total, is_closed, least_tick}
 use Rattle.sota_network.specs.Network.{Net, arc_at}
+use Rattle.sota_network.specs.Numbers.{listed}
 use Rattle.sota_network.specs.Grid.{weighed}
 use Rattle.sota_network.specs.Trees.{Tree, Trees, stop, go, tree_then, score, scores}
 use Rattle.sota_network.specs.declared.network.Arc.{Arc}
@@ -67,3 +69,31 @@ pub record ScoreLaws : Type 0 where
       (rest : Trees) → t < p.0
       → scores net dest j t (p ∷ ps) (tree_then child rest) ≡ scores net dest j t ps rest
   pub none : (net : Net) (dest j t : ℕ) (trees : Trees) → scores net dest j t [] trees ≡ 0
+
+-- How a bound of what a tree scores goes over the pairs of a time, where q is the scale, T its
+-- power at the budget, A that before a pair's tick, B that of what the tick leaves, and w one
+-- whole: one pair more, of mass m, with the score `score` and the value v of its child, and at
+-- last from the sum to the value of the node
+pub record PairLaws : Type 0 where
+  pub parts : (q s t : ℕ) → 1 ≤ s → s ≤ t → q ^ t ≡ q ^ (s - 1) * q * q ^ (t - s)
+  pub above : (w m q A B T score v sum scores : ℕ) → T ≡ A * q * B → w * score ≤ v * B
+      → w * scores * q ≤ sum * T → w * (m * A * score + scores) * q ≤ (m * v + sum) * T
+  pub below : (w m q A B T score v sum scores : ℕ) → T ≡ A * q * B → v * B ≤ w * score
+      → sum * T ≤ w * scores * q → (m * v + sum) * T ≤ w * (m * A * score + scores) * q
+  pub node_above : (w q scores sum v T : ℕ) → 1 ≤ q → w * scores * q ≤ sum * T → sum ≤ v * q
+      → w * scores ≤ v * T
+  pub node_below : (w q scores sum v T : ℕ) → 1 ≤ q → sum * T ≤ w * scores * q → v * q ≤ sum
+      → v * T ≤ w * scores
+
+-- lists by number
+pub record ListLaws : Type 0 where
+  pub count : (f : ℕ → ℕ) (n : ℕ) → length (listed f n) ≡ n
+  pub entry : (f : ℕ → ℕ) (n i other : ℕ) → 1 ≤ i → i ≤ n
+      → slice_index_or (listed f n) (i - 1) other ≡ f i
+  pub agree : (f g : ℕ → ℕ) (n : ℕ) → ((i : ℕ) → 1 ≤ i → i ≤ n → f i ≡ g i)
+      → listed f n ≡ listed g n
+  pub within : (f : ℕ → ℕ) (n most : ℕ) → ((i : ℕ) → f i ≤ most)
+      → All (λ x. x ≤ most) (listed f n)
+  pub items : (items : List ℕ) (f : ℕ → ℕ) (n : ℕ) → length items ≡ n
+      → ((i : ℕ) → 1 ≤ i → i ≤ n → slice_index_or items (i - 1) 0 ≡ f i)
+      → items ≡ listed f n

@@ -1,6 +1,7 @@
 pub mod Network
 pub mod Numbers
 pub mod Grid
+pub mod Among
 pub mod Trees
 pub mod Sound
 pub mod GridView

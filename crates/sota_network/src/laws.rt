@@ -7,8 +7,9 @@ ghost use Rattle.sota_units.specs.Rounding.{ONE, floor_by, ceiling_by};
 ghost use Rattle.sota_hist.specs.Time.{IsTime, total, is_closed, least_tick};
 ghost use Rattle.sota_network.specs.declared.network.Arc.{Arc};
 ghost use Rattle.sota_network.specs.Network.{Net, IsNet, IsArc, arc_at, replaced};
-ghost use Rattle.sota_network.specs.Numbers.{numbers, listed};
-ghost use Rattle.sota_network.specs.Grid.{lo, hi, choice, value_from};
+ghost use Rattle.sota_network.specs.Numbers.{numbers};
+ghost use Rattle.sota_network.specs.Grid.{lo, hi, choice, value_from, Causal, by_budget};
+ghost use Rattle.sota_network.specs.Among.{AmongLaws};
 ghost use Rattle.sota_network.specs.Grid.{best_of, best_sum, choice_of, plain_sum, IsFirstBest};
 ghost use Rattle.sota_network.specs.Trees.{Encloses, Fits, Tree, follow, follow_step, score};
 ghost use Rattle.sota_network.specs.Sound.{Sound, Covers};
@@ -16,6 +17,7 @@ ghost use Rattle.sota_network.specs.Walks.{Walk, IsLeastTime};
 ghost use Rattle.sota_network.specs.Reach.{reaches, in_region};
 ghost use Rattle.sota_network.specs.Reads.{Reads};
 ghost use Rattle.sota_network.specs.Laws.{SumLaws, TickLaws, RoundLaws, ScoreLaws};
+ghost use Rattle.sota_network.specs.Laws.{PairLaws, ListLaws};
 ghost use Rattle.sota_network.specs.Region.{pairs_at, need, table_cells, broad_cells};
 ghost use Rattle.sota_network.specs.Region.{is_between, pairs_between, need_between, HasLeastTimes};
 ghost use Rattle.sota_network.specs.Examples.{triangle, chain, chain_tree, fork, late_route};
@@ -76,16 +78,24 @@ pub fn choices_by_worth()
 
 /// A list of the values of a function, by number.
 pub fn lists_by_number()
-    ensures count { (f : ℕ → ℕ) (n : ℕ) → length (listed f n) ≡ n }
-    ensures entry { (f : ℕ → ℕ) (n i other : ℕ) → 1 ≤ i → i ≤ n
-        → slice_index_or (listed f n) (i - 1) other ≡ f i }
-    ensures agree { (f g : ℕ → ℕ) (n : ℕ) → ((i : ℕ) → 1 ≤ i → i ≤ n → f i ≡ g i)
-        → listed f n ≡ listed g n }
-    ensures within { (f : ℕ → ℕ) (n most : ℕ) → ((i : ℕ) → f i ≤ most)
-        → All (λ x. x ≤ most) (listed f n) }
-    ensures items { (items : List ℕ) (f : ℕ → ℕ) (n : ℕ) → length items ≡ n
-        → ((i : ℕ) → 1 ≤ i → i ≤ n → slice_index_or items (i - 1) 0 ≡ f i)
-        → items ≡ listed f n }
+    ensures { ListLaws }
+{}
+
+/// The arcs that leave a node, looked at one after the other, come to the greatest worth there and
+/// to the choice.
+pub fn arcs_one_by_one()
+    ensures { AmongLaws }
+{}
+
+/// How a bound of what a tree scores goes over the pairs of a time, one by one.
+pub fn scores_by_pairs()
+    ensures { PairLaws }
+{}
+
+/// What is repeated settles: where a step reads only smaller budgets, `by_budget` satisfies it.
+pub fn steps_settle()
+    ensures { (x : ℕ) (step : (ℕ → ℕ → ℕ) → ℕ → ℕ → ℕ) → Causal step → (i t : ℕ)
+        → by_budget x step i t ≡ step (by_budget x step) i t }
 {}
 
 /// The values of the grid, and the tree of a rule, are what their recursion makes of those at

@@ -3,12 +3,14 @@
 #![tactic(auto)]
 
 mod adjacency;
+mod broad;
 mod choice;
 mod grid;
 pub mod laws;
 mod network;
 mod plain;
 
+pub use broad::broad_at;
 pub use choice::Choice;
 pub use grid::Grid;
 pub use network::{Arc, Network, NoArc};

@@ -37,7 +37,7 @@ pub one_again : (table : Table) → IsTable table → any_of (spelling table) �
 one_again table is = any_one (spelling table) (begins_as_one table) ∙ ap (λ (r : Result Table PolicyFault). result_map_both One (λ fault. fault) r) (one.read_again table is)
 
 pub two_again : (table : Bracket) → IsBracket table → any_of (bracket_spelling table) ≡ Ok (Two table)
-two_again table is = any_two (bracket_spelling table) (two.said table is).clean.begins ∙ ap (λ (r : Result Bracket PolicyFault). result_map_both Two (λ fault. fault) r) (two.read_again table is)
+two_again table is = any_two (bracket_spelling table) (two.said table is).clean.head.begins ∙ ap (λ (r : Result Bracket PolicyFault). result_map_both Two (λ fault. fault) r) (two.read_again table is)
 
 pub any_again : (table : AnyTable) → IsAny table → any_of (any_spelling table) ≡ Ok table
 any_again (One table) is = one_again table is

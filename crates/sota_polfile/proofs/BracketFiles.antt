@@ -2,7 +2,6 @@
 use Rattle.std.proofs.Common.{◌≡◌, ℕ, ◌+◌, ◌*◌, ◌^◌, ◌≤◌, true, List, [], ◌∷◌, ◌++◌, length, take, drop, Some, None, Ok, Err, refl, sym, ap, ◌∙◌, subst, arith}
 use Rattle.std.specs.Prelude.{nat_eq}
 use Rattle.std.specs.List.{flat_map, starts_with}
-use Rattle.std.specs.Int.{w32, to_be_bytes}
 use Rattle.std.specs.Cmp.Lexicographic.{same_text}
 use Rattle.std.proofs.lemmas.List.{append-nil, take-append-drop, length-append, length-drop, drop_all}
 use Rattle.std.proofs.lemmas.List.FromFn.{length-map-range_with_len}
@@ -11,15 +10,15 @@ use Rattle.sota_polfile.specs.declared.fault.PolicyFault.{PolicyFault}
 use Rattle.sota_polfile.specs.declared.head.PolicyHead.{PolicyHead}
 use Rattle.sota_polfile.specs.Table.{IsHead}
 use Rattle.sota_polfile.specs.Bracket.{Bracket, IsBracket, bracket_cells}
-use Rattle.sota_polfile.specs.Spelling.{numbers}
-use Rattle.sota_polfile.specs.Places.{number_at, head_at}
-use Rattle.sota_polfile.specs.Faults.{is_head}
+use Rattle.sota_polfile.specs.Places.{head_at}
+use Rattle.sota_polfile.specs.Faults.{is_head, head_fault}
 use Rattle.sota_polfile.specs.BracketFile.{bracket_magic, spelled_bracket_head, spelled_bracket_row, bracket_spelling, bracket_start, bracket_rows_at, bracket_at, bracket_file_rows_fault, first_bracket_fault, bracket_of}
-use Rattle.sota_polfile.proofs.Numbers.{IsBytes, wide32, number_again, number_takes}
+use Rattle.sota_polfile.proofs.Numbers.{IsBytes}
+use Rattle.sota_polfile.proofs.Heads.{numbers_again, numbers_take}
 use Rattle.sota_polfile.proofs.Rules.{head_fits, fit_head}
 use Rattle.sota_polfile.proofs.BracketParts.{by_place, from_places}
 use Rattle.sota_polfile.proofs.BracketRows.{rows_again, rows_take, length-rows}
-use Rattle.sota_polfile.proofs.FileFaults.{Clean, clean_none, none_clean}
+use Rattle.sota_polfile.proofs.FileFaults.{Clean, none_head, clean_none, none_clean}
 use Rattle.sota_polfile.proofs.Replies.{fault_or_ok, refused, faultless}
 
 -- bytes in which no fault is found
@@ -49,15 +48,10 @@ pub record HeadStands (bytes rest : List ℕ) (is : PolicyHead) : Type 0 where
 head_again : (bytes rest : List ℕ) (head : PolicyHead) → IsHead head → bytes ≡ spelled_bracket_head head ++ rest → HeadStands bytes rest head
 unfolding spelled_bracket_head
 head_again bytes rest head fits e =
-    let nodes : number_at w32 bytes 8 ≡ head.nodes = number_again w32 (2 ^ 32) wide32 bytes (numbers (head.dest ∷ head.origin ∷ head.budget ∷ head.scale ∷ []) ++ rest) 8 head.nodes (omega (arith, fits.nodes.1)) (ap (drop 8) e) in
-    let dest : number_at w32 bytes 12 ≡ head.dest = number_again w32 (2 ^ 32) wide32 bytes (numbers (head.origin ∷ head.budget ∷ head.scale ∷ []) ++ rest) 12 head.dest (omega (arith, fits.nodes.1, fits.dest.1)) (ap (drop 12) e) in
-    let origin : number_at w32 bytes 16 ≡ head.origin = number_again w32 (2 ^ 32) wide32 bytes (numbers (head.budget ∷ head.scale ∷ []) ++ rest) 16 head.origin (omega (arith, fits.nodes.1, fits.origin.1)) (ap (drop 16) e) in
-    let budget : number_at w32 bytes 20 ≡ head.budget = number_again w32 (2 ^ 32) wide32 bytes (numbers (head.scale ∷ []) ++ rest) 20 head.budget (omega (arith, fits.budget)) (ap (drop 20) e) in
-    let scale : number_at w32 bytes 24 ≡ head.scale = number_again w32 (2 ^ 32) wide32 bytes rest 24 head.scale (omega (arith, fits.scale.1)) (ap (drop 24) e) in
     record {
       begins = rw e refl;
       long = omega (arith, ap length e, length-append (spelled_bracket_head head) rest);
-      head = rw (nodes, dest, origin, budget, scale) refl;
+      head = numbers_again bytes rest head fits (ap (drop 8) e);
       behind = ap (drop 28) e;
     }
 
@@ -81,9 +75,7 @@ said table is =
     let end = rw zero_more at all.behind in
     record {
       clean = record {
-        begins = head.begins;
-        long = head.long;
-        head = ap is_head head.head ∙ fit_head table.head is.head;
+        head = record { begins = head.begins; long = head.long; head = ap is_head head.head ∙ fit_head table.head is.head };
         rows_pass = rw nodes all.none;
         ends = rw nodes (omega (arith, length-drop (bracket_start bytes (length table.rows)) bytes, ap length end));
       };
@@ -102,28 +94,19 @@ head_text : (bytes : List ℕ) → IsBytes bytes → starts_with nat_eq bytes br
 unfolding spelled_bracket_head
 head_text bytes fits begins long =
     let first : bracket_magic ≡ take 8 bytes = same_text bracket_magic (take 8 bytes) (sym begins) in
-    let nodes : drop 8 bytes ≡ to_be_bytes w32 (number_at w32 bytes 8) ++ drop 12 bytes = number_takes w32 (2 ^ 32) wide32 bytes 8 fits (omega arith) in
-    let dest : drop 12 bytes ≡ to_be_bytes w32 (number_at w32 bytes 12) ++ drop 16 bytes = number_takes w32 (2 ^ 32) wide32 bytes 12 fits (omega arith) in
-    let origin : drop 16 bytes ≡ to_be_bytes w32 (number_at w32 bytes 16) ++ drop 20 bytes = number_takes w32 (2 ^ 32) wide32 bytes 16 fits (omega arith) in
-    let budget : drop 20 bytes ≡ to_be_bytes w32 (number_at w32 bytes 20) ++ drop 24 bytes = number_takes w32 (2 ^ 32) wide32 bytes 20 fits (omega arith) in
-    let scale : drop 24 bytes ≡ to_be_bytes w32 (number_at w32 bytes 24) ++ drop 28 bytes = number_takes w32 (2 ^ 32) wide32 bytes 24 fits (omega arith) in
-    let from20 = budget ∙ ap (λ (t : List ℕ). to_be_bytes w32 (number_at w32 bytes 20) ++ t) scale in
-    let from16 = origin ∙ ap (λ (t : List ℕ). to_be_bytes w32 (number_at w32 bytes 16) ++ t) from20 in
-    let from12 = dest ∙ ap (λ (t : List ℕ). to_be_bytes w32 (number_at w32 bytes 12) ++ t) from16 in
-    let from8 = nodes ∙ ap (λ (t : List ℕ). to_be_bytes w32 (number_at w32 bytes 8) ++ t) from12 in
-    sym (take-append-drop 8 bytes) ∙ ap (λ (t : List ℕ). t ++ drop 8 bytes) (sym first) ∙ ap (λ (t : List ℕ). bracket_magic ++ t) from8
+    sym (take-append-drop 8 bytes) ∙ ap (λ (t : List ℕ). t ++ drop 8 bytes) (sym first) ∙ ap (λ (t : List ℕ). bracket_magic ++ t) (numbers_take bytes fits long)
 
 pub clean_spelled : (bytes : List ℕ) → IsBytes bytes → CleanBracket bytes → IsBracket (bracket_at bytes) × (bytes ≡ bracket_spelling (bracket_at bytes))
 unfolding bracket_spelling bracket_at bracket_start
 clean_spelled bytes fits clean =
     let n : ℕ = (head_at bytes).nodes in
-    let head = head_text bytes fits clean.begins clean.long in
-    let all = rows_take bytes 0 n fits clean.long clean.rows_pass in
+    let head = head_text bytes fits clean.head.begins clean.head.long in
+    let all = rows_take bytes 0 n fits clean.head.long clean.rows_pass in
     let zero_more : 0 + n ≡ n = omega arith in
     let none : drop (bracket_start bytes (0 + n)) bytes ≡ [] = rw zero_more (drop_all (bracket_start bytes n) bytes clean.ends) in
     let rows : drop 28 bytes ≡ flat_map spelled_bracket_row (bracket_rows_at bytes 0 n) = all.text ∙ ap (λ (t : List ℕ). flat_map spelled_bracket_row (bracket_rows_at bytes 0 n) ++ t) none ∙ append-nil (flat_map spelled_bracket_row (bracket_rows_at bytes 0 n)) in (
       record {
-        head = head_fits (head_at bytes) clean.head;
+        head = head_fits (head_at bytes) clean.head.head;
         size = length-map-range_with_len _ 0 n;
         rows = by_place (head_at bytes) 1 (bracket_rows_at bytes 0 n) all.parts all.entries;
       },
@@ -144,10 +127,8 @@ bracket_refused bytes fault e = refused (first_bracket_fault bytes) (bracket_at 
 
 -- a head, rows and their end, as they stand in the bytes
 pub record Found (bytes : List ℕ) (head : PolicyHead) (rows : List BracketRow) (end : ℕ) : Type 0 where
-  pub begins : starts_with nat_eq bytes bracket_magic ≡ true
-  pub long : 28 ≤ length bytes
+  pub head_none : head_fault bracket_magic 28 bytes ≡ None
   pub head_is : head ≡ head_at bytes
-  pub in_range : is_head head ≡ true
   pub rows_are : rows ≡ bracket_rows_at bytes 0 head.nodes
   pub none : bracket_file_rows_fault bytes 0 head.nodes ≡ None
   pub end_is : end ≡ bracket_start bytes head.nodes
@@ -157,9 +138,7 @@ pub found_table : (bytes : List ℕ) (head : PolicyHead) (rows : List BracketRow
 unfolding bracket_at bracket_of made
 found_table bytes head rows end fits found =
     let clean : CleanBracket bytes = record {
-      begins = found.begins;
-      long = found.long;
-      head = ap is_head (sym found.head_is) ∙ found.in_range;
+      head = none_head bracket_magic 28 bytes found.head_none;
       rows_pass = rw found.head_is at found.none;
       ends = rw (found.end_is, found.head_is) at found.ends;
     } in

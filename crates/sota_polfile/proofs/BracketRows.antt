@@ -13,7 +13,7 @@ use Rattle.sota_polfile.specs.declared.row.RowHead.{RowHead}
 use Rattle.sota_polfile.specs.Entry.{IsBracketEntry}
 use Rattle.sota_polfile.specs.Table.{IsHead}
 use Rattle.sota_polfile.specs.Bracket.{IsPart, part_head}
-use Rattle.sota_polfile.specs.Spelling.{numbers}
+use Rattle.sota_polfile.specs.Spelling.{spelled_numbers}
 use Rattle.sota_polfile.specs.Places.{number_at, head_at}
 use Rattle.sota_polfile.specs.BracketFile.{spelled_bracket_entry, spelled_bracket_row, part_at, part_fault, bracket_entries_at, bracket_row_at, bracket_start, bracket_rows_at, bracket_row_fault_at, bracket_row_fault, bracket_file_rows_fault}
 use Rattle.sota_polfile.proofs.Numbers.{IsBytes, wide32, moved, room, number_again, number_takes}
@@ -25,7 +25,7 @@ use Rattle.sota_polfile.proofs.BracketParts.{AreParts, part_none, none_part, par
 
 pub length-row : (row : BracketRow) → length (spelled_bracket_row row) ≡ 8 + 20 * length row.entries
 unfolding spelled_bracket_row
-length-row row = omega (arith, length-bracket_entries row.entries, length-append (numbers (row.first ∷ length row.entries ∷ [])) (flat_map spelled_bracket_entry row.entries))
+length-row row = omega (arith, length-bracket_entries row.entries, length-append (spelled_numbers (row.first ∷ length row.entries ∷ [])) (flat_map spelled_bracket_entry row.entries))
 
 -- a row that was spelled at a place
 pub record Stands (bytes rest : List ℕ) (at : ℕ) (row : BracketRow) : Type 0 where
@@ -38,8 +38,8 @@ pub row_again : (bytes rest : List ℕ) (at : ℕ) (row : BracketRow) → row.fi
 unfolding spelled_bracket_row
 row_again bytes rest at row early few are e =
     let entries = flat_map spelled_bracket_entry row.entries in
-    let text : drop at bytes ≡ numbers (row.first ∷ length row.entries ∷ []) ++ (entries ++ rest) = e ∙ append_assoc (numbers (row.first ∷ length row.entries ∷ [])) entries rest in
-    let first : number_at w32 bytes at ≡ row.first = number_again w32 (2 ^ 32) wide32 bytes (numbers (length row.entries ∷ []) ++ (entries ++ rest)) at row.first early text in
+    let text : drop at bytes ≡ spelled_numbers (row.first ∷ length row.entries ∷ []) ++ (entries ++ rest) = e ∙ append_assoc (spelled_numbers (row.first ∷ length row.entries ∷ [])) entries rest in
+    let first : number_at w32 bytes at ≡ row.first = number_again w32 (2 ^ 32) wide32 bytes (spelled_numbers (length row.entries ∷ []) ++ (entries ++ rest)) at row.first early text in
     let count : number_at w32 bytes (at + 4) ≡ length row.entries = number_again w32 (2 ^ 32) wide32 bytes (entries ++ rest) (at + 4) (length row.entries) few (moved at 4 bytes _ text) in
     let zero : at + 8 + 20 * 0 ≡ at + 8 = omega arith in
     let behind : drop (at + 8 + 20 * 0) bytes ≡ entries ++ rest = rw zero (moved at 8 bytes _ text) in
@@ -60,15 +60,15 @@ row_takes bytes at fits within =
     let first : drop at bytes ≡ to_be_bytes w32 (number_at w32 bytes at) ++ drop (at + 4) bytes = number_takes w32 (2 ^ 32) wide32 bytes at fits (omega arith) in
     let second : drop (at + 4) bytes ≡ to_be_bytes w32 (number_at w32 bytes (at + 4)) ++ drop (at + 4 + 4) bytes = number_takes w32 (2 ^ 32) wide32 bytes (at + 4) fits (omega arith) in
     let eight : at + 4 + 4 ≡ at + 8 = omega arith in
-    let head : drop at bytes ≡ numbers (number_at w32 bytes at ∷ number_at w32 bytes (at + 4) ∷ []) ++ drop (at + 8) bytes = first ∙ ap (λ (t : List ℕ). to_be_bytes w32 (number_at w32 bytes at) ++ t) (rw eight at second) in
+    let head : drop at bytes ≡ spelled_numbers (number_at w32 bytes at ∷ number_at w32 bytes (at + 4) ∷ []) ++ drop (at + 8) bytes = first ∙ ap (λ (t : List ℕ). to_be_bytes w32 (number_at w32 bytes at) ++ t) (rw eight at second) in
     let start : at + 8 + 20 * 0 ≡ at + 8 = omega arith in
     let end : at + 8 + 20 * (0 + number_at w32 bytes (at + 4)) ≡ at + 8 + 20 * number_at w32 bytes (at + 4) = omega arith in
     let entries = bracket_entries_take bytes fits (at + 8) 0 (number_at w32 bytes (at + 4)) (rw end within) in
     let are = bracket_entries_at bytes (at + 8) (number_at w32 bytes (at + 4)) in
     let behind : drop (at + 8) bytes ≡ flat_map spelled_bracket_entry are ++ drop (at + 8 + 20 * number_at w32 bytes (at + 4)) bytes = ap (λ (p : ℕ). drop p bytes) (sym start) ∙ entries.0 ∙ ap (λ (p : ℕ). flat_map spelled_bracket_entry are ++ drop p bytes) end in
     let long : length are ≡ number_at w32 bytes (at + 4) = length-map-range_with_len _ 0 (number_at w32 bytes (at + 4)) in
-    let text : drop at bytes ≡ numbers (number_at w32 bytes at ∷ number_at w32 bytes (at + 4) ∷ []) ++ (flat_map spelled_bracket_entry are ++ drop (at + 8 + 20 * number_at w32 bytes (at + 4)) bytes) = head ∙ ap (λ (t : List ℕ). numbers (number_at w32 bytes at ∷ number_at w32 bytes (at + 4) ∷ []) ++ t) behind in
-    (rw long (text ∙ sym (append_assoc (numbers (number_at w32 bytes at ∷ number_at w32 bytes (at + 4) ∷ [])) (flat_map spelled_bracket_entry are) (drop (at + 8 + 20 * number_at w32 bytes (at + 4)) bytes))), entries.1)
+    let text : drop at bytes ≡ spelled_numbers (number_at w32 bytes at ∷ number_at w32 bytes (at + 4) ∷ []) ++ (flat_map spelled_bracket_entry are ++ drop (at + 8 + 20 * number_at w32 bytes (at + 4)) bytes) = head ∙ ap (λ (t : List ℕ). spelled_numbers (number_at w32 bytes at ∷ number_at w32 bytes (at + 4) ∷ []) ++ t) behind in
+    (rw long (text ∙ sym (append_assoc (spelled_numbers (number_at w32 bytes at ∷ number_at w32 bytes (at + 4) ∷ [])) (flat_map spelled_bracket_entry are) (drop (at + 8 + 20 * number_at w32 bytes (at + 4)) bytes))), entries.1)
 
 -- ---- faults of rows
 

@@ -7,19 +7,19 @@ use Rattle.std.proofs.Math.Seq.{take-append-add}
 use Rattle.std.proofs.lemmas.Bool.{cases_lt, false_from_ne_true, le-ltb, lt-ltb}
 use Rattle.std.proofs.lemmas.List.{length-append, length-take}
 use Rattle.std.proofs.lemmas.List.Elements.{recursion_from_All}
-use Rattle.sota_polfile.specs.declared.fault.PolicyFault.TheVariants.{Truncated}
+use Rattle.sota_polfile.specs.declared.fault.PolicyFault.TheVariants.{Magic, Truncated}
 use Rattle.sota_polfile.specs.declared.head.PolicyHead.{PolicyHead}
 use Rattle.sota_polfile.specs.declared.row.PolicyRow.{PolicyRow}
 use Rattle.sota_polfile.specs.declared.row.RowHead.{RowHead}
 use Rattle.sota_polfile.specs.Entry.{IsEntry}
 use Rattle.sota_polfile.specs.Table.{Table, IsHead, IsRow, IsTable, row_head, nodes}
-use Rattle.sota_polfile.specs.Spelling.{magic, numbers, spelled_head, spelled_entry, spelled_row, spelling}
+use Rattle.sota_polfile.specs.Spelling.{magic, spelled_numbers, spelled_head, spelled_entry, spelled_row, spelling}
 use Rattle.sota_polfile.specs.Places.{head_at, row_count, row_head_at, start, node_before}
 use Rattle.sota_polfile.specs.Faults.{is_head, is_unordered, numbers_fault, row_fault, file_rows_fault, first_fault, cut_of}
 use Rattle.sota_polfile.proofs.Rules.{Rises, fit_head, fit_numbers}
 use Rattle.sota_polfile.proofs.Parts.{table_rows, table_bound}
 use Rattle.sota_polfile.proofs.Rows.{row_fits, row_head_again, row_again, length-row, no_fault, in_entries, start_after, node_before_after}
-use Rattle.sota_polfile.proofs.FileFaults.{sized_short, among_passed, among_found, not_magic, short_head, bad_rows}
+use Rattle.sota_polfile.proofs.FileFaults.{sized_short, among_passed, among_found, HasHead, head_none, not_magic, short_head, in_head, in_rows}
 use Rattle.sota_polfile.proofs.Files.{length-head, head_again, policy_clean_none, said}
 
 -- the first m bytes of a text that goes on for longer than its front
@@ -37,7 +37,7 @@ module _ (bytes : List ℕ) (head : IsHead (head_at bytes)) (k m : ℕ) (row : P
         let place : start bytes k ≡ start bytes k + 12 * (m / 12) = omega arith in
         sized_short (length bytes) (start bytes k) 12 (numbers_fault (head_at bytes) (node_before bytes k) (k + 1) (row_head_at bytes (start bytes k))) 12 (row_head_at bytes (start bytes k)).count (omega arith) ∙ ap (λ (p : ℕ). Some (Truncated p)) place
     | inr whole ↦
-        let front = numbers (row.node ∷ row.first ∷ length row.entries ∷ []) in
+        let front = spelled_numbers (row.node ∷ row.first ∷ length row.entries ∷ []) in
         let after = flat_map spelled_entry row.entries ++ more in
         let regrouped : drop (start bytes k) bytes ≡ front ++ take (m - 12) after = text ∙ ap (take m) (append_assoc front (flat_map spelled_entry row.entries) more) ∙ front_stays front after m whole in
         let numbers = row_head_again bytes (take (m - 12) after) (start bytes k) (row_head row) (row_fits (head_at bytes) (row_head row) head is.numbers) regrouped in
@@ -95,7 +95,7 @@ starts_short bytes short = false_from_ne_true _ (λ (e : starts_with nat_eq byte
 starts_whole : (bytes rest : List ℕ) → bytes ≡ magic ++ rest → starts_with nat_eq bytes magic ≡ true
 starts_whole bytes rest e = rw e refl
 
-magic_first : (head : PolicyHead) (count : ℕ) → spelled_head head count ≡ magic ++ numbers (head.nodes ∷ head.dest ∷ head.origin ∷ head.budget ∷ head.scale ∷ count ∷ [])
+magic_first : (head : PolicyHead) (count : ℕ) → spelled_head head count ≡ magic ++ spelled_numbers (head.nodes ∷ head.dest ∷ head.origin ∷ head.budget ∷ head.scale ∷ count ∷ [])
 unfolding spelled_head
 magic_first head count = refl
 
@@ -114,22 +114,23 @@ module _ (table : Table) (is : IsTable table) where
       let long : length bytes ≡ n = omega (arith, length-take n (spelling table)) in
       let head = head_again bytes (take (n - 32) text) table.head (length table.rows) is.head (omega (arith, table_bound table is, is.head.nodes.1)) stays in
       let rows = rows_cut bytes (rw head.head is.head) 0 (n - 32) table.rows (rw head.head (recursion_from_All (IsRow table.head) table.rows is.rows)) (table_rows table is).rising head.behind (omega arith) (omega arith) in
-      bad_rows magic 32 (file_rows_fault bytes 0 (row_count bytes)) (start bytes (row_count bytes)) bytes _ head.begins (omega arith) (ap is_head head.head ∙ fit_head table.head is.head) (rw head.rows rows)
+      let has : HasHead magic 32 bytes = record { begins = head.begins; long = omega arith; head = ap is_head head.head ∙ fit_head table.head is.head } in
+      in_rows magic 32 (file_rows_fault bytes 0 (row_count bytes)) (start bytes (row_count bytes)) bytes _ (head_none magic 32 bytes has) (rw head.rows rows)
 
   pub cut_first : (n : ℕ) → n < length (spelling table) → first_fault (take n (spelling table)) ≡ Some (cut_of n)
   unfolding spelling
   cut_first n cut = elim (cases_lt n 8) [
     | inl short ↦
         let below : ltb n 8 ≡ true = lt-ltb _ _ short in
-        not_magic magic 32 _ _ (take n (spelling table)) (starts_short (take n (spelling table)) (omega (arith, length-take n (spelling table)))) ∙ rw below refl
+        in_head magic 32 _ _ (take n (spelling table)) Magic (not_magic magic 32 (take n (spelling table)) (starts_short (take n (spelling table)) (omega (arith, length-take n (spelling table))))) ∙ rw below refl
     | inr eight ↦ elim (cases_lt n 32) [
       | inl short ↦
           let past : ltb n 8 ≡ false = le-ltb _ _ eight in
           let below : ltb n 32 ≡ true = lt-ltb _ _ short in
-          let more = numbers (table.head.nodes ∷ table.head.dest ∷ table.head.origin ∷ table.head.budget ∷ table.head.scale ∷ length table.rows ∷ []) in
+          let more = spelled_numbers (table.head.nodes ∷ table.head.dest ∷ table.head.origin ∷ table.head.budget ∷ table.head.scale ∷ length table.rows ∷ []) in
           let first : spelling table ≡ magic ++ (more ++ flat_map spelled_row table.rows) = ap (λ (t : List ℕ). t ++ flat_map spelled_row table.rows) (magic_first table.head (length table.rows)) in
           let stays : take n (spelling table) ≡ magic ++ take (n - 8) (more ++ flat_map spelled_row table.rows) = ap (take n) first ∙ front_stays magic (more ++ flat_map spelled_row table.rows) n eight in
-          short_head magic 32 _ _ (take n (spelling table)) (starts_whole _ _ stays) (omega (arith, length-take n (spelling table))) ∙ rw (past, below) refl
+          in_head magic 32 _ _ (take n (spelling table)) (Truncated 0) (short_head magic 32 (take n (spelling table)) (starts_whole _ _ stays) (omega (arith, length-take n (spelling table)))) ∙ rw (past, below) refl
       | inr whole ↦
           let past : ltb n 8 ≡ false = le-ltb _ _ eight in
           let also : ltb n 32 ≡ false = le-ltb _ _ whole in

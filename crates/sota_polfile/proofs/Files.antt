@@ -14,14 +14,15 @@ use Rattle.sota_polfile.specs.declared.fault.PolicyFault.{PolicyFault}
 use Rattle.sota_polfile.specs.declared.head.PolicyHead.{PolicyHead}
 use Rattle.sota_polfile.specs.declared.row.PolicyRow.{PolicyRow}
 use Rattle.sota_polfile.specs.Table.{Table, IsHead, IsRow, IsTable, nodes, cells}
-use Rattle.sota_polfile.specs.Spelling.{magic, numbers, spelled_head, spelled_row, spelling}
-use Rattle.sota_polfile.specs.Places.{number_at, head_at, row_count, start, node_before, rows_at, table_at}
-use Rattle.sota_polfile.specs.Faults.{is_head, file_rows_fault, first_fault, policy_of}
+use Rattle.sota_polfile.specs.Spelling.{magic, spelled_numbers, spelled_head, spelled_row, spelling}
+use Rattle.sota_polfile.specs.Places.{number_at, head_at, row_count, start, node_before, rows_at, table_read}
+use Rattle.sota_polfile.specs.Faults.{is_head, head_fault, file_rows_fault, first_fault, policy_of}
 use Rattle.sota_polfile.proofs.Numbers.{IsBytes, wide32, number_again, number_takes}
+use Rattle.sota_polfile.proofs.Heads.{head_numbers, numbers_again, numbers_take}
 use Rattle.sota_polfile.proofs.Rules.{head_fits, fit_head, increasing}
 use Rattle.sota_polfile.proofs.Parts.{table_rows, table_bound}
 use Rattle.sota_polfile.proofs.Rows.{rows_again, rows_take, length-rows}
-use Rattle.sota_polfile.proofs.FileFaults.{Clean, clean_none, none_clean}
+use Rattle.sota_polfile.proofs.FileFaults.{Clean, none_head, clean_none, none_clean}
 use Rattle.sota_polfile.proofs.Replies.{fault_or_ok, refused, faultless}
 
 -- bytes in which no fault is found
@@ -54,16 +55,11 @@ pub record HeadStands (bytes rest : List ℕ) (is : PolicyHead) (count : ℕ) : 
 pub head_again : (bytes rest : List ℕ) (head : PolicyHead) (count : ℕ) → IsHead head → count < 2 ^ 32 → bytes ≡ spelled_head head count ++ rest → HeadStands bytes rest head count
 unfolding spelled_head
 head_again bytes rest head count fits few e =
-    let nodes : number_at w32 bytes 8 ≡ head.nodes = number_again w32 (2 ^ 32) wide32 bytes (numbers (head.dest ∷ head.origin ∷ head.budget ∷ head.scale ∷ count ∷ []) ++ rest) 8 head.nodes (omega (arith, fits.nodes.1)) (ap (drop 8) e) in
-    let dest : number_at w32 bytes 12 ≡ head.dest = number_again w32 (2 ^ 32) wide32 bytes (numbers (head.origin ∷ head.budget ∷ head.scale ∷ count ∷ []) ++ rest) 12 head.dest (omega (arith, fits.nodes.1, fits.dest.1)) (ap (drop 12) e) in
-    let origin : number_at w32 bytes 16 ≡ head.origin = number_again w32 (2 ^ 32) wide32 bytes (numbers (head.budget ∷ head.scale ∷ count ∷ []) ++ rest) 16 head.origin (omega (arith, fits.nodes.1, fits.origin.1)) (ap (drop 16) e) in
-    let budget : number_at w32 bytes 20 ≡ head.budget = number_again w32 (2 ^ 32) wide32 bytes (numbers (head.scale ∷ count ∷ []) ++ rest) 20 head.budget (omega (arith, fits.budget)) (ap (drop 20) e) in
-    let scale : number_at w32 bytes 24 ≡ head.scale = number_again w32 (2 ^ 32) wide32 bytes (numbers (count ∷ []) ++ rest) 24 head.scale (omega (arith, fits.scale.1)) (ap (drop 24) e) in
     let rows : number_at w32 bytes 28 ≡ count = number_again w32 (2 ^ 32) wide32 bytes rest 28 count few (ap (drop 28) e) in
     record {
       begins = rw e refl;
       long = omega (arith, ap length e, length-append (spelled_head head count) rest);
-      head = rw (nodes, dest, origin, budget, scale) refl;
+      head = numbers_again bytes (spelled_numbers (count ∷ []) ++ rest) head fits (ap (drop 8) e);
       rows = rows;
       behind = ap (drop 32) e;
     }
@@ -71,13 +67,13 @@ head_again bytes rest head count fits few e =
 -- a table's spelling has no fault, and says that table
 pub record Said (table : Table) : Type 0 where
   pub clean : CleanPolicy (spelling table)
-  pub is : table_at (spelling table) ≡ table
+  pub is : table_read (spelling table) ≡ table
 
 made : PolicyHead → List PolicyRow → Table
 made head rows = record { head = head; rows = rows }
 
 pub said : (table : Table) → IsTable table → Said table
-unfolding spelling table_at start node_before made
+unfolding spelling table_read start node_before made
 said table is =
     let bytes = spelling table in
     let few = table_bound table is in
@@ -88,9 +84,7 @@ said table is =
     let end = rw zero_more at all.behind in
     record {
       clean = record {
-        begins = head.begins;
-        long = head.long;
-        head = ap is_head head.head ∙ fit_head table.head is.head;
+        head = record { begins = head.begins; long = head.long; head = ap is_head head.head ∙ fit_head table.head is.head };
         rows_pass = rw head.rows all.none;
         ends = rw head.rows (omega (arith, length-drop (start bytes (length table.rows)) bytes, ap length end));
       };
@@ -109,31 +103,22 @@ head_text : (bytes : List ℕ) → IsBytes bytes → starts_with nat_eq bytes ma
 unfolding spelled_head
 head_text bytes fits begins long =
     let first : magic ≡ take 8 bytes = same_text magic (take 8 bytes) (sym begins) in
-    let nodes : drop 8 bytes ≡ to_be_bytes w32 (number_at w32 bytes 8) ++ drop 12 bytes = number_takes w32 (2 ^ 32) wide32 bytes 8 fits (omega arith) in
-    let dest : drop 12 bytes ≡ to_be_bytes w32 (number_at w32 bytes 12) ++ drop 16 bytes = number_takes w32 (2 ^ 32) wide32 bytes 12 fits (omega arith) in
-    let origin : drop 16 bytes ≡ to_be_bytes w32 (number_at w32 bytes 16) ++ drop 20 bytes = number_takes w32 (2 ^ 32) wide32 bytes 16 fits (omega arith) in
-    let budget : drop 20 bytes ≡ to_be_bytes w32 (number_at w32 bytes 20) ++ drop 24 bytes = number_takes w32 (2 ^ 32) wide32 bytes 20 fits (omega arith) in
-    let scale : drop 24 bytes ≡ to_be_bytes w32 (number_at w32 bytes 24) ++ drop 28 bytes = number_takes w32 (2 ^ 32) wide32 bytes 24 fits (omega arith) in
     let rows : drop 28 bytes ≡ to_be_bytes w32 (number_at w32 bytes 28) ++ drop 32 bytes = number_takes w32 (2 ^ 32) wide32 bytes 28 fits (omega arith) in
-    let from24 = scale ∙ ap (λ (t : List ℕ). to_be_bytes w32 (number_at w32 bytes 24) ++ t) rows in
-    let from20 = budget ∙ ap (λ (t : List ℕ). to_be_bytes w32 (number_at w32 bytes 20) ++ t) from24 in
-    let from16 = origin ∙ ap (λ (t : List ℕ). to_be_bytes w32 (number_at w32 bytes 16) ++ t) from20 in
-    let from12 = dest ∙ ap (λ (t : List ℕ). to_be_bytes w32 (number_at w32 bytes 12) ++ t) from16 in
-    let from8 = nodes ∙ ap (λ (t : List ℕ). to_be_bytes w32 (number_at w32 bytes 8) ++ t) from12 in
+    let from8 : drop 8 bytes ≡ head_numbers (head_at bytes) ++ (to_be_bytes w32 (number_at w32 bytes 28) ++ drop 32 bytes) = numbers_take bytes fits (omega arith) ∙ ap (λ (t : List ℕ). head_numbers (head_at bytes) ++ t) rows in
     sym (take-append-drop 8 bytes) ∙ ap (λ (t : List ℕ). t ++ drop 8 bytes) (sym first) ∙ ap (λ (t : List ℕ). magic ++ t) from8
 
-pub clean_spelled : (bytes : List ℕ) → IsBytes bytes → CleanPolicy bytes → IsTable (table_at bytes) × (bytes ≡ spelling (table_at bytes))
-unfolding spelling table_at start node_before
+pub clean_spelled : (bytes : List ℕ) → IsBytes bytes → CleanPolicy bytes → IsTable (table_read bytes) × (bytes ≡ spelling (table_read bytes))
+unfolding spelling table_read start node_before
 clean_spelled bytes fits clean =
     let n = row_count bytes in
-    let head = head_text bytes fits clean.begins clean.long in
-    let all = rows_take bytes 0 n fits clean.long clean.rows_pass in
+    let head = head_text bytes fits clean.head.begins clean.head.long in
+    let all = rows_take bytes 0 n fits clean.head.long clean.rows_pass in
     let zero_more : 0 + n ≡ n = omega arith in
     let none : drop (start bytes (0 + n)) bytes ≡ [] = rw zero_more (drop_all (start bytes n) bytes clean.ends) in
     let rows : drop 32 bytes ≡ flat_map spelled_row (rows_at bytes 0 n) = all.text ∙ ap (λ (t : List ℕ). flat_map spelled_row (rows_at bytes 0 n) ++ t) none ∙ append-nil (flat_map spelled_row (rows_at bytes 0 n)) in
     let count : length (rows_at bytes 0 n) ≡ n = length-map-range_with_len _ 0 n in (
       record {
-        head = head_fits (head_at bytes) clean.head;
+        head = head_fits (head_at bytes) clean.head.head;
         rows = All-from_recursion (IsRow (head_at bytes)) (rows_at bytes 0 n) all.are;
         rising = increasing None (nodes (rows_at bytes 0 n)) all.up;
       },
@@ -143,7 +128,7 @@ clean_spelled bytes fits clean =
 pub read_spelled : (bytes : List ℕ) (table : Table) → IsBytes bytes → policy_of bytes ≡ Ok table → IsTable table × (bytes ≡ spelling table)
 unfolding policy_of
 read_spelled bytes table fits e =
-    let p = fault_or_ok (first_fault bytes) (table_at bytes) table e in
+    let p = fault_or_ok (first_fault bytes) (table_read bytes) table e in
     rw p.1 at (clean_spelled bytes fits (none_clean magic 32 (file_rows_fault bytes 0 (row_count bytes)) (start bytes (row_count bytes)) bytes p.0))
 
 pub reads_spelled : (bytes : List ℕ) (r : Result Table PolicyFault) → IsBytes bytes → Answers is_shortage r (policy_of bytes) → IfOk r (λ table. IsTable table × (bytes ≡ spelling table))
@@ -162,14 +147,12 @@ IsBytes-from_all bytes h i =
 
 pub policy_refused : (bytes : List ℕ) (fault : PolicyFault) → first_fault bytes ≡ Some fault → policy_of bytes ≡ Err fault
 unfolding policy_of
-policy_refused bytes fault e = refused (first_fault bytes) (table_at bytes) fault e
+policy_refused bytes fault e = refused (first_fault bytes) (table_read bytes) fault e
 
 -- a head, rows and their end, as they stand in the bytes
 pub record Found (bytes : List ℕ) (head : PolicyHead) (count : ℕ) (rows : List PolicyRow) (end : ℕ) : Type 0 where
-  pub begins : starts_with nat_eq bytes magic ≡ true
-  pub long : 32 ≤ length bytes
+  pub head_none : head_fault magic 32 bytes ≡ None
   pub head_is : head ≡ head_at bytes
-  pub in_range : is_head head ≡ true
   pub count_is : count ≡ row_count bytes
   pub rows_are : rows ≡ rows_at bytes 0 count
   pub none : file_rows_fault bytes 0 count ≡ None
@@ -177,15 +160,13 @@ pub record Found (bytes : List ℕ) (head : PolicyHead) (count : ℕ) (rows : Li
   pub ends : length bytes ≤ end
 
 pub found_table : (bytes : List ℕ) (head : PolicyHead) (count : ℕ) (rows : List PolicyRow) (end : ℕ) → IsBytes bytes → Found bytes head count rows end → IsTable (record { head = head; rows = rows }) × (policy_of bytes ≡ Ok (record { head = head; rows = rows }))
-unfolding table_at policy_of made
+unfolding table_read policy_of made
 found_table bytes head count rows end fits found =
     let clean : CleanPolicy bytes = record {
-      begins = found.begins;
-      long = found.long;
-      head = ap is_head (sym found.head_is) ∙ found.in_range;
+      head = none_head magic 32 bytes found.head_none;
       rows_pass = rw found.count_is at found.none;
       ends = rw (found.end_is, found.count_is) at found.ends;
     } in
     let rows_are : rows ≡ rows_at bytes 0 (row_count bytes) = found.rows_are ∙ ap (λ (n : ℕ). rows_at bytes 0 n) found.count_is in
-    let is : table_at bytes ≡ record { head = head; rows = rows } = ap (λ (h : PolicyHead). made h (rows_at bytes 0 (row_count bytes))) (sym found.head_is) ∙ ap (made head) (sym rows_are) in
-    (subst (λ (t : Table). IsTable t) is (clean_spelled bytes fits clean).0, faultless (first_fault bytes) (table_at bytes) (policy_clean_none bytes clean) ∙ ap (λ (t : Table). Ok t) is)
+    let is : table_read bytes ≡ record { head = head; rows = rows } = ap (λ (h : PolicyHead). made h (rows_at bytes 0 (row_count bytes))) (sym found.head_is) ∙ ap (made head) (sym rows_are) in
+    (subst (λ (t : Table). IsTable t) is (clean_spelled bytes fits clean).0, faultless (first_fault bytes) (table_read bytes) (policy_clean_none bytes clean) ∙ ap (λ (t : Table). Ok t) is)

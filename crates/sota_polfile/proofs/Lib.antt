@@ -2,6 +2,7 @@ pub mod Rules
 pub mod Parts
 pub mod Search
 pub mod Numbers
+pub mod Heads
 pub mod Lists
 pub mod Entries
 pub mod FileFaults

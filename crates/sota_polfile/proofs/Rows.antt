@@ -12,8 +12,8 @@ use Rattle.sota_polfile.specs.declared.row.PolicyRow.{PolicyRow}
 use Rattle.sota_polfile.specs.declared.row.RowHead.{RowHead}
 use Rattle.sota_polfile.specs.Entry.{IsEntry}
 use Rattle.sota_polfile.specs.Table.{IsHead, IsRowHead, IsRow, row_head, nodes}
-use Rattle.sota_polfile.specs.Spelling.{numbers, spelled_entry, spelled_row}
-use Rattle.sota_polfile.specs.Places.{number_at, head_at, row_head_at, entries_at, row_at, start, node_before, rows_at}
+use Rattle.sota_polfile.specs.Spelling.{spelled_numbers, spelled_entry, spelled_row}
+use Rattle.sota_polfile.specs.Places.{number_at, head_at, row_head_at, entries_at, policy_row_at, start, node_before, rows_at}
 use Rattle.sota_polfile.specs.Faults.{is_unordered, row_fault_at, row_fault, file_rows_fault, numbers_fault}
 use Rattle.sota_polfile.proofs.Numbers.{IsBytes, wide32, moved, room, number_again, number_takes, number_below}
 use Rattle.sota_polfile.proofs.Entries.{length-entries, entries_again, entries_take}
@@ -35,14 +35,14 @@ row_fits head row fits is = record {
 
 -- ---- one row
 
-pub row_head_again : (bytes rest : List ℕ) (at : ℕ) (row : RowHead) → Fits row → drop at bytes ≡ numbers (row.node ∷ row.first ∷ row.count ∷ []) ++ rest → (row_head_at bytes at ≡ row) × (drop (at + 12) bytes ≡ rest)
+pub row_head_again : (bytes rest : List ℕ) (at : ℕ) (row : RowHead) → Fits row → drop at bytes ≡ spelled_numbers (row.node ∷ row.first ∷ row.count ∷ []) ++ rest → (row_head_at bytes at ≡ row) × (drop (at + 12) bytes ≡ rest)
 row_head_again bytes rest at row fits e =
-    let node : number_at w32 bytes at ≡ row.node = number_again w32 (2 ^ 32) wide32 bytes (numbers (row.first ∷ row.count ∷ []) ++ rest) at row.node fits.node e in
-    let first : number_at w32 bytes (at + 4) ≡ row.first = number_again w32 (2 ^ 32) wide32 bytes (numbers (row.count ∷ []) ++ rest) (at + 4) row.first fits.first (moved at 4 bytes _ e) in
+    let node : number_at w32 bytes at ≡ row.node = number_again w32 (2 ^ 32) wide32 bytes (spelled_numbers (row.first ∷ row.count ∷ []) ++ rest) at row.node fits.node e in
+    let first : number_at w32 bytes (at + 4) ≡ row.first = number_again w32 (2 ^ 32) wide32 bytes (spelled_numbers (row.count ∷ []) ++ rest) (at + 4) row.first fits.first (moved at 4 bytes _ e) in
     let count : number_at w32 bytes (at + 8) ≡ row.count = number_again w32 (2 ^ 32) wide32 bytes rest (at + 8) row.count fits.count (moved at 8 bytes _ e) in
     (rw (node, first, count) refl, moved at 12 bytes _ e)
 
-pub row_head_takes : (bytes : List ℕ) (at : ℕ) → IsBytes bytes → at + 12 ≤ length bytes → (drop at bytes ≡ numbers ((row_head_at bytes at).node ∷ (row_head_at bytes at).first ∷ (row_head_at bytes at).count ∷ []) ++ drop (at + 12) bytes) × Fits (row_head_at bytes at)
+pub row_head_takes : (bytes : List ℕ) (at : ℕ) → IsBytes bytes → at + 12 ≤ length bytes → (drop at bytes ≡ spelled_numbers ((row_head_at bytes at).node ∷ (row_head_at bytes at).first ∷ (row_head_at bytes at).count ∷ []) ++ drop (at + 12) bytes) × Fits (row_head_at bytes at)
 row_head_takes bytes at fits within =
     let node : drop at bytes ≡ to_be_bytes w32 (number_at w32 bytes at) ++ drop (at + 4) bytes = number_takes w32 (2 ^ 32) wide32 bytes at fits (omega arith) in
     let first : drop (at + 4) bytes ≡ to_be_bytes w32 (number_at w32 bytes (at + 4)) ++ drop (at + 4 + 4) bytes = number_takes w32 (2 ^ 32) wide32 bytes (at + 4) fits (omega arith) in
@@ -54,19 +54,19 @@ row_head_takes bytes at fits within =
 
 pub length-row : (row : PolicyRow) → length (spelled_row row) ≡ 12 + 12 * length row.entries
 unfolding spelled_row
-length-row row = omega (arith, length-entries row.entries, length-append (numbers (row.node ∷ row.first ∷ length row.entries ∷ [])) (flat_map spelled_entry row.entries))
+length-row row = omega (arith, length-entries row.entries, length-append (spelled_numbers (row.node ∷ row.first ∷ length row.entries ∷ [])) (flat_map spelled_entry row.entries))
 
 -- a row that was spelled at a place
 pub record Stands (bytes rest : List ℕ) (at : ℕ) (row : PolicyRow) : Type 0 where
   pub numbers : row_head_at bytes at ≡ row_head row
-  pub is : row_at bytes at ≡ row
+  pub is : policy_row_at bytes at ≡ row
   pub behind : drop (at + 12 + 12 * length row.entries) bytes ≡ rest
   pub within : at + 12 + 12 * length row.entries ≤ length bytes
 
 pub row_again : (bytes rest : List ℕ) (at : ℕ) (row : PolicyRow) → Fits (row_head row) → AllByRecursion IsEntry row.entries → drop at bytes ≡ spelled_row row ++ rest → Stands bytes rest at row
 unfolding spelled_row
 row_again bytes rest at row fits are e =
-    let regrouped = e ∙ append_assoc (numbers (row.node ∷ row.first ∷ length row.entries ∷ [])) (flat_map spelled_entry row.entries) rest in
+    let regrouped = e ∙ append_assoc (spelled_numbers (row.node ∷ row.first ∷ length row.entries ∷ [])) (flat_map spelled_entry row.entries) rest in
     let head = row_head_again bytes (flat_map spelled_entry row.entries ++ rest) at (row_head row) fits regrouped in
     let zero : at + 12 + 12 * 0 ≡ at + 12 = omega arith in
     let behind : drop (at + 12 + 12 * 0) bytes ≡ flat_map spelled_entry row.entries ++ rest = rw zero head.1 in
@@ -83,7 +83,7 @@ row_again bytes rest at row fits are e =
       within = omega (arith, room at (12 + 12 * length row.entries) bytes (spelled_row row ++ rest) e (omega arith) (omega (arith, length-row row, length-append (spelled_row row) rest)));
     }
 
-pub row_takes : (bytes : List ℕ) (at : ℕ) → IsBytes bytes → at + 12 + 12 * (row_head_at bytes at).count ≤ length bytes → (drop at bytes ≡ spelled_row (row_at bytes at) ++ drop (at + 12 + 12 * (row_head_at bytes at).count) bytes) × AllByRecursion IsEntry (row_at bytes at).entries
+pub row_takes : (bytes : List ℕ) (at : ℕ) → IsBytes bytes → at + 12 + 12 * (row_head_at bytes at).count ≤ length bytes → (drop at bytes ≡ spelled_row (policy_row_at bytes at) ++ drop (at + 12 + 12 * (row_head_at bytes at).count) bytes) × AllByRecursion IsEntry (policy_row_at bytes at).entries
 unfolding spelled_row
 row_takes bytes at fits within =
     let row = row_head_at bytes at in
@@ -94,8 +94,8 @@ row_takes bytes at fits within =
     let are = entries_at bytes (at + 12) row.count in
     let behind : drop (at + 12) bytes ≡ flat_map spelled_entry are ++ drop (at + 12 + 12 * row.count) bytes = ap (λ (p : ℕ). drop p bytes) (sym start) ∙ entries.0 ∙ ap (λ (p : ℕ). flat_map spelled_entry are ++ drop p bytes) end in
     let count : length are ≡ row.count = length-map-range_with_len _ 0 row.count in
-    let text : drop at bytes ≡ numbers (row.node ∷ row.first ∷ row.count ∷ []) ++ (flat_map spelled_entry are ++ drop (at + 12 + 12 * row.count) bytes) = head.0 ∙ ap (λ (t : List ℕ). numbers (row.node ∷ row.first ∷ row.count ∷ []) ++ t) behind in
-    (rw count (text ∙ sym (append_assoc (numbers (row.node ∷ row.first ∷ row.count ∷ [])) (flat_map spelled_entry are) (drop (at + 12 + 12 * row.count) bytes))), entries.1)
+    let text : drop at bytes ≡ spelled_numbers (row.node ∷ row.first ∷ row.count ∷ []) ++ (flat_map spelled_entry are ++ drop (at + 12 + 12 * row.count) bytes) = head.0 ∙ ap (λ (t : List ℕ). spelled_numbers (row.node ∷ row.first ∷ row.count ∷ []) ++ t) behind in
+    (rw count (text ∙ sym (append_assoc (spelled_numbers (row.node ∷ row.first ∷ row.count ∷ [])) (flat_map spelled_entry are) (drop (at + 12 + 12 * row.count) bytes))), entries.1)
 
 -- ---- faults of rows
 
@@ -176,7 +176,7 @@ rows_take bytes k zero fits within none =
 rows_take bytes k (suc n) fits within none =
     let at = start bytes k in
     let head = row_head_at bytes at in
-    let row = row_at bytes at in
+    let row = policy_row_at bytes at in
     let parts = among_parts (row_fault bytes) k n none in
     let here = passes bytes (head_at bytes) at (node_before bytes k) (k + 1) parts.0 in
     let one = row_takes bytes at fits here.within in

@@ -41,11 +41,11 @@ abbrev pub bracket_cells : Bracket → ℕ
 bracket_cells table = sum_by (λ row. length row.entries) table.rows
 
 -- the row of a node; none where no node has this number
-abbrev pub row_of : Bracket → ℕ → Option BracketRow
-row_of table zero = None
-row_of table (suc k) = slice_get table.rows k
+abbrev pub bracket_row_of : Bracket → ℕ → Option BracketRow
+bracket_row_of table zero = None
+bracket_row_of table (suc k) = slice_get table.rows k
 
 -- the entry of a node for a budget; none where the node has none for it
 abbrev pub bracket_entry_of : Bracket → ℕ → ℕ → Option BracketEntry
 bracket_entry_of table node budget =
-    option_and_then (λ row. entry_from row.first row.entries budget) (row_of table node)
+    option_and_then (λ row. entry_from row.first row.entries budget) (bracket_row_of table node)

@@ -17,7 +17,7 @@ use Rattle.sota_polfile.specs.declared.head.PolicyHead.{PolicyHead}
 use Rattle.sota_polfile.specs.declared.row.RowHead.{RowHead}
 use Rattle.sota_polfile.specs.Table.{IsTable}
 use Rattle.sota_polfile.specs.Bracket.{Bracket, IsBracket, part_head}
-use Rattle.sota_polfile.specs.Spelling.{numbers, spelling}
+use Rattle.sota_polfile.specs.Spelling.{spelled_numbers, spelling}
 use Rattle.sota_polfile.specs.Places.{number_at, head_at}
 use Rattle.sota_polfile.specs.Faults.{is_head, fault_if, first_of, fault_or, policy_of}
 use Rattle.sota_polfile.specs.Faults.{sized_fault, fault_among, file_fault}
@@ -31,14 +31,14 @@ bracket_magic = codes "SOTAPOL2"
 -- the 28 bytes before the parts of the nodes
 unfoldable pub spelled_bracket_head : PolicyHead → List ℕ
 spelled_bracket_head head = bracket_magic
-    ++ numbers (head.nodes ∷ head.dest ∷ head.origin ∷ head.budget ∷ head.scale ∷ [])
+    ++ spelled_numbers (head.nodes ∷ head.dest ∷ head.origin ∷ head.budget ∷ head.scale ∷ [])
 
 unfoldable pub spelled_bracket_entry : BracketEntry → List ℕ
 spelled_bracket_entry entry =
     to_be_bytes w32 entry.arc ++ (to_be_bytes w64 entry.lower ++ to_be_bytes w64 entry.upper)
 
 unfoldable pub spelled_bracket_row : BracketRow → List ℕ
-spelled_bracket_row row = numbers (row.first ∷ length row.entries ∷ [])
+spelled_bracket_row row = spelled_numbers (row.first ∷ length row.entries ∷ [])
     ++ flat_map spelled_bracket_entry row.entries
 
 unfoldable pub bracket_spelling : Bracket → List ℕ

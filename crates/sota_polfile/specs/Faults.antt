@@ -14,7 +14,8 @@ use Rattle.sota_polfile.specs.declared.row.RowHead.{RowHead}
 use Rattle.sota_polfile.specs.Table.{Table, row_head}
 use Rattle.sota_units.specs.Limits.{NODE_LIMIT, BUDGET_LIMIT}
 use Rattle.sota_polfile.specs.Spelling.{magic}
-use Rattle.sota_polfile.specs.Places.{head_at, row_count, row_head_at, start, node_before, table_at}
+use Rattle.sota_polfile.specs.Places.{head_at, row_count, row_head_at, start, node_before}
+use Rattle.sota_polfile.specs.Places.{table_read}
 
 -- the test of IsHead
 abbrev pub is_head : PolicyHead → Bool
@@ -91,13 +92,19 @@ fault_among fault k n = first_of (map fault (range_with_len k n))
 abbrev pub file_rows_fault : List ℕ → ℕ → ℕ → Option PolicyFault
 file_rows_fault bytes k n = fault_among (row_fault bytes) k n
 
--- the first fault of bytes: they begin with the magic, have a head of this length, and then rows
--- with this first fault up to this end
-unfoldable pub file_fault : List ℕ → ℕ → Option PolicyFault → ℕ → List ℕ → Option PolicyFault
-file_fault begin front rows end bytes =
+-- the first fault of what stands before the rows: bytes begin with the magic, and have a head of
+-- this length
+unfoldable pub head_fault : List ℕ → ℕ → List ℕ → Option PolicyFault
+head_fault begin front bytes =
     first_of (fault_if (not (starts_with nat_eq bytes begin)) Magic
     ∷ fault_if (nat_lt (length bytes) front) (Truncated 0)
     ∷ fault_if (not (is_head (head_at bytes))) (Range 0)
+    ∷ [])
+
+-- the first fault of bytes: after such a head stand rows with this first fault up to this end
+unfoldable pub file_fault : List ℕ → ℕ → Option PolicyFault → ℕ → List ℕ → Option PolicyFault
+file_fault begin front rows end bytes =
+    first_of (head_fault begin front bytes
     ∷ rows
     ∷ fault_if (nat_lt end (length bytes)) (Trailing end)
     ∷ [])
@@ -115,7 +122,7 @@ fault_or (Some fault) value = Err fault
 
 -- what bytes mean: a table, or the first fault
 unfoldable pub policy_of : List ℕ → Result Table PolicyFault
-policy_of bytes = fault_or (first_fault bytes) (table_at bytes)
+policy_of bytes = fault_or (first_fault bytes) (table_read bytes)
 
 -- The first fault of the first bytes of a policy file, so many that the file is not whole.
 abbrev pub cut_of : ℕ → PolicyFault

@@ -38,8 +38,8 @@ abbrev pub entries_at : List ℕ → ℕ → ℕ → List PolicyEntry
 entries_at bytes at count = map (λ i. entry_at bytes (at + 12 * i)) (range_with_len 0 count)
 
 -- the entries, of twelve bytes each, after a row head of twelve bytes
-abbrev pub row_at : List ℕ → ℕ → PolicyRow
-row_at bytes at = let row = row_head_at bytes at in record {
+abbrev pub policy_row_at : List ℕ → ℕ → PolicyRow
+policy_row_at bytes at = let row = row_head_at bytes at in record {
   node = row.node;
   first = row.first;
   entries = entries_at bytes (at + 12) row.count;
@@ -56,8 +56,8 @@ node_before bytes zero = None
 node_before bytes (suc k) = Some (row_head_at bytes (start bytes k)).node
 
 abbrev pub rows_at : List ℕ → ℕ → ℕ → List PolicyRow
-rows_at bytes k n = map (λ j. row_at bytes (start bytes j)) (range_with_len k n)
+rows_at bytes k n = map (λ j. policy_row_at bytes (start bytes j)) (range_with_len k n)
 
 -- the table of bytes that have no fault
-unfoldable pub table_at : List ℕ → Table
-table_at bytes = record { head = head_at bytes; rows = rows_at bytes 0 (row_count bytes) }
+unfoldable pub table_read : List ℕ → Table
+table_read bytes = record { head = head_at bytes; rows = rows_at bytes 0 (row_count bytes) }

@@ -12,19 +12,19 @@ abbrev pub magic : List ℕ
 magic = codes "SOTAPOL1"
 
 -- numbers of four bytes, one after the other
-abbrev pub numbers : List ℕ → List ℕ
-numbers ns = flat_map (λ n. to_be_bytes w32 n) ns
+abbrev pub spelled_numbers : List ℕ → List ℕ
+spelled_numbers ns = flat_map (λ n. to_be_bytes w32 n) ns
 
 -- the 32 bytes before the rows
 unfoldable pub spelled_head : PolicyHead → ℕ → List ℕ
 spelled_head head rows = magic
-    ++ numbers (head.nodes ∷ head.dest ∷ head.origin ∷ head.budget ∷ head.scale ∷ rows ∷ [])
+    ++ spelled_numbers (head.nodes ∷ head.dest ∷ head.origin ∷ head.budget ∷ head.scale ∷ rows ∷ [])
 
 unfoldable pub spelled_entry : PolicyEntry → List ℕ
 spelled_entry entry = to_be_bytes w32 entry.arc ++ to_be_bytes w64 entry.value
 
 unfoldable pub spelled_row : PolicyRow → List ℕ
-spelled_row row = numbers (row.node ∷ row.first ∷ length row.entries ∷ [])
+spelled_row row = spelled_numbers (row.node ∷ row.first ∷ length row.entries ∷ [])
     ++ flat_map spelled_entry row.entries
 
 unfoldable pub spelling : Table → List ℕ

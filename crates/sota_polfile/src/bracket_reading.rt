@@ -9,6 +9,7 @@ ghost use Rattle.sota_polfile.specs.BracketFile.{bracket_entries_at, bracket_row
 ghost use Rattle.sota_polfile.specs.BracketFile.{bracket_rows_at, bracket_row_fault_at};
 ghost use Rattle.sota_polfile.specs.BracketFile.{bracket_file_rows_fault, bracket_of};
 
+use crate::head::read_head;
 use crate::{
     BracketEntries, BracketEntry, BracketHead, BracketRow, BracketTable, PolicyFault, places,
 };
@@ -100,16 +101,7 @@ fn read_rows(
 pub(crate) fn bracket_of(alloc: Global, bytes: &[u8]) -> Result<BracketTable, PolicyFault>
     ensures { Answers is_shortage result (bracket_of bytes.now) }
 {
-    if !bytes.starts_with(&BRACKET_MAGIC) {
-        return Err(PolicyFault::Magic);
-    }
-    if bytes.len() < HEAD {
-        return Err(PolicyFault::Truncated(0));
-    }
-    let head = places::head_at(bytes);
-    if !head.is_in_range() {
-        return Err(PolicyFault::Range(0));
-    }
+    let head = read_head(bytes, &BRACKET_MAGIC, HEAD)?;
     let (rows, end) = read_rows(alloc, bytes, &head)?;
     if end < bytes.len() {
         return Err(PolicyFault::Trailing(end as u64));

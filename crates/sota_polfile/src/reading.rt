@@ -6,9 +6,10 @@ ghost use Rattle.sota_polfile.specs.Limits.{POLICY_LIMIT};
 ghost use Rattle.sota_polfile.specs.Words.{is_shortage};
 ghost use Rattle.sota_polfile.specs.Table.{Table, IsTable};
 ghost use Rattle.sota_polfile.specs.Spelling.{spelling};
-ghost use Rattle.sota_polfile.specs.Places.{head_at, entries_at, row_at, rows_at, start};
+ghost use Rattle.sota_polfile.specs.Places.{head_at, entries_at, policy_row_at, rows_at, start};
 ghost use Rattle.sota_polfile.specs.Faults.{row_fault_at, file_rows_fault, policy_of, fault_or};
 
+use crate::head::read_head;
 use crate::{PolicyEntries, PolicyEntry, PolicyFault, PolicyHead, PolicyRow, PolicyTable, places};
 use std::alloc::{AllocError, Global};
 
@@ -48,7 +49,7 @@ fn read_row(
 ) -> Result<PolicyRow, PolicyFault>
     requires { at ≤ length bytes.now }
     ensures { Answers is_shortage result
-        (fault_or (row_fault_at bytes.now head.now at before number) (row_at bytes.now at)) }
+        (fault_or (row_fault_at bytes.now head.now at before number) (policy_row_at bytes.now at)) }
 {
     let left = bytes.len() - at;
     if left < ROW_HEAD {
@@ -101,16 +102,7 @@ fn read_rows(
 fn table_of(alloc: Global, bytes: &[u8]) -> Result<PolicyTable, PolicyFault>
     ensures { Answers is_shortage result (policy_of bytes.now) }
 {
-    if !bytes.starts_with(&MAGIC) {
-        return Err(PolicyFault::Magic);
-    }
-    if bytes.len() < HEAD {
-        return Err(PolicyFault::Truncated(0));
-    }
-    let head = places::head_at(bytes);
-    if !head.is_in_range() {
-        return Err(PolicyFault::Range(0));
-    }
+    let head = read_head(bytes, &MAGIC, HEAD)?;
     let (rows, end) = read_rows(alloc, bytes, &head, places::row_count(bytes))?;
     if end < bytes.len() {
         return Err(PolicyFault::Trailing(end as u64));

@@ -1,8 +1,8 @@
 // A table has one spelling.
 ghost use Rattle.std.specs.Prelude.{◌≡◌, ◌+◌, ◌*◌, ◌<◌, ◌^◌, ◌++◌, length, OnOk, IfOk, Ok};
 ghost use Rattle.sota_polfile.specs.Table.{cells};
-ghost use Rattle.sota_polfile.specs.Spelling.{numbers, spelled_head, spelled_entry, spelled_row};
-ghost use Rattle.sota_polfile.specs.Spelling.{spelling};
+ghost use Rattle.sota_polfile.specs.Spelling.{spelled_numbers, spelled_head, spelled_entry};
+ghost use Rattle.sota_polfile.specs.Spelling.{spelled_row, spelling};
 ghost use Rattle.sota_polfile.specs.Faults.{policy_of};
 
 use crate::{PolicyEntry, PolicyHead, PolicyRow, PolicyTable};
@@ -10,7 +10,7 @@ use sota_units::NoMemory;
 use std::alloc::{AllocError, Global};
 
 pub(crate) fn put_numbers(out: &mut Vec<u8>, ns: &[u32]) -> Result<(), AllocError>
-    ensures { OnOk result (out.new.items ≡ out.old.items ++ numbers ns.now) }
+    ensures { OnOk result (out.new.items ≡ out.old.items ++ spelled_numbers ns.now) }
 {
     for n in ns {
         out.extend_from_slice(&n.to_be_bytes())?;

@@ -6,7 +6,7 @@ use Rattle.sota_units.specs.Rounding.{ONE}
 use Rattle.sota_network.specs.Network.{Net, IsNode}
 use Rattle.sota_network.specs.Grid.{lo, hi}
 use Rattle.sota_network.specs.Region.{need}
-use Rattle.sota_kept.specs.Laws.{ListLaws}
+use Rattle.sota_network.specs.Laws.{ListLaws}
 use Rattle.sota_kept.specs.Ticks.{least_to}
 use Rattle.sota_kept.specs.NodeTables.{NodeTable, IsSettledAt, IsReadyAt, AreSettled, known_end, lower_of, upper_of}
 use Rattle.sota_kept.specs.States.{State, front_of, grown_state}

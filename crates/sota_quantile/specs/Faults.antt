@@ -12,27 +12,29 @@ use Rattle.sota_quantile.specs.declared.need.NeedFault.{NeedFault}
 use Rattle.sota_quantile.specs.declared.need.NeedFault.TheVariants as needs
 
 -- the first number that is out of range, none where all are in it
-abbrev pub range_cause : RangeFault → NeedFault
-range_cause ranges.NoOrigin = needs.NoOrigin
-range_cause ranges.NoDest = needs.NoDest
-range_cause ranges.Budget = needs.Budget
+abbrev pub need_range_cause : RangeFault → NeedFault
+need_range_cause ranges.NoOrigin = needs.NoOrigin
+need_range_cause ranges.NoDest = needs.NoDest
+need_range_cause ranges.Budget = needs.Budget
 
-abbrev pub range_fault : Net → ℕ → ℕ → ℕ → Option NeedFault
-range_fault net origin dest most = option_map range_cause (bounds.range_fault net origin dest most)
+abbrev pub need_range_fault : Net → ℕ → ℕ → ℕ → Option NeedFault
+need_range_fault net origin dest most =
+    option_map need_range_cause (bounds.range_fault net origin dest most)
 
 -- a region that is too large is one that cannot be planned for
-abbrev pub size_cause : RegionFault → NeedFault
-size_cause (regions.TableCells count) = needs.TableCells count
-size_cause (regions.BroadCells count) = needs.BroadCells count
-size_cause regions.NoMemory = needs.NoMemory
+abbrev pub need_size_cause : RegionFault → NeedFault
+need_size_cause (regions.TableCells count) = needs.TableCells count
+need_size_cause (regions.BroadCells count) = needs.BroadCells count
+need_size_cause regions.NoMemory = needs.NoMemory
 
-abbrev pub size_fault : Net → ℕ → ℕ → ℕ → Option NeedFault
-size_fault net origin dest most = option_map size_cause (region_fault net origin dest most)
+abbrev pub need_size_fault : Net → ℕ → ℕ → ℕ → Option NeedFault
+need_size_fault net origin dest most =
+    option_map need_size_cause (region_fault net origin dest most)
 
 -- the first cause for which a need is refused, none where it is answered
 abbrev pub need_fault : Net → ℕ → ℕ → ℕ → Option NeedFault
 need_fault net origin dest most =
-    option_or (range_fault net origin dest most) (size_fault net origin dest most)
+    option_or (need_range_fault net origin dest most) (need_size_fault net origin dest most)
 
 -- want of memory has no cause in what was handed in
 abbrev pub is_shortage : NeedFault → Bool

@@ -68,9 +68,9 @@ impl From<NoMemory> for NeedFault {
 }
 
 impl From<RangeFault> for NeedFault {
-    ghost use Rattle.sota_quantile.specs.Faults.{range_cause};
+    ghost use Rattle.sota_quantile.specs.Faults.{need_range_cause};
 
-    ghost from_gives = { λ range fault. fault ≡ range_cause range };
+    ghost from_gives = { λ range fault. fault ≡ need_range_cause range };
 
     fn from(fault: RangeFault) -> Self {
         match fault {
@@ -82,9 +82,9 @@ impl From<RangeFault> for NeedFault {
 }
 
 impl From<RegionFault> for NeedFault {
-    ghost use Rattle.sota_quantile.specs.Faults.{size_cause};
+    ghost use Rattle.sota_quantile.specs.Faults.{need_size_cause};
 
-    ghost from_gives = { λ region fault. fault ≡ size_cause region };
+    ghost from_gives = { λ region fault. fault ≡ need_size_cause region };
 
     fn from(fault: RegionFault) -> Self {
         match fault {

@@ -7,7 +7,7 @@ ghost use Rattle.sota_network.specs.Region.{table_cells};
 ghost use Rattle.sota_bounds.specs.Regions.{IsRegion};
 ghost use Rattle.sota_bounds.specs.Faults.{TABLE_LIMIT, BROAD_LIMIT};
 ghost use Rattle.sota_quantile.specs.Bounds.{HasBounds};
-ghost use Rattle.sota_quantile.specs.Faults.{size_fault, is_shortage};
+ghost use Rattle.sota_quantile.specs.Faults.{need_size_fault, is_shortage};
 
 use crate::need::NeedFault;
 use sota_bounds::laws::asks_miss;
@@ -40,9 +40,9 @@ pub(crate) fn plan<M: Ledger, P: Ledger>(
     requires dest { IsNode network.now dest }
     requires budget { budget ≤ BUDGET_LIMIT }
     ensures bounds { IfOk result (λ tables. HasBounds tables network.now dest origin budget) }
-    ensures ok { OnOk result (size_fault network.now origin dest budget ≡ None) }
+    ensures ok { OnOk result (need_size_fault network.now origin dest budget ≡ None) }
     ensures fault { IfErr result (λ fault.
-        IsFault is_shortage (size_fault network.now origin dest budget) fault) }
+        IsFault is_shortage (need_size_fault network.now origin dest budget) fault) }
     ensures count { OnOk result (pushes.new
         ≡ pushes.old + 3 * table_cells network.now origin dest budget) }
     ensures refused { OnErr result (pushes.new ≡ pushes.old) }

@@ -6,7 +6,7 @@ ghost use Rattle.sota_network.specs.Network.{IsNet};
 ghost use Rattle.sota_network.specs.Grid.{lo, hi};
 ghost use Rattle.sota_network.specs.Region.{table_cells};
 ghost use Rattle.sota_quantile.specs.Needs.{ReachesWith, least_budget};
-ghost use Rattle.sota_quantile.specs.Faults.{range_fault, need_fault, is_shortage};
+ghost use Rattle.sota_quantile.specs.Faults.{need_range_fault, need_fault, is_shortage};
 ghost use Rattle.sota_quantile.specs.declared.need.NeedFault.TheVariants as needs;
 
 use crate::laws::needs_by_trees;
@@ -41,7 +41,8 @@ pub fn least_budgets<M: Ledger, P: Ledger>(
     ensures ok { OnOk result (need_fault network.now origin dest most ≡ None) }
     ensures fault { IfErr result (λ fault.
         IsFault is_shortage (need_fault network.now origin dest most) fault) }
-    ensures memory { result ≡ Err needs.NoMemory → range_fault network.now origin dest most ≡ None }
+    ensures memory { result ≡ Err needs.NoMemory
+        → need_range_fault network.now origin dest most ≡ None }
     ensures early { IfOk result (λ need.
         need.early ≡ least_budget (hi network.now dest origin) confidence most) }
     ensures sure { IfOk result (λ need.

@@ -34,5 +34,5 @@ trips net table (suc count) words =
     (tallied last.0 before.0, last.1)
 
 -- the tally of so many trips by the words of a seed
-abbrev pub replayed : Net → Table → ℕ → ℕ → Tally
-replayed net table count seed = (trips net table count (words_of seed)).0
+abbrev pub tally_after : Net → Table → ℕ → ℕ → Tally
+tally_after net table count seed = (trips net table count (words_of seed)).0

@@ -5,8 +5,8 @@ use Rattle.std.proofs.lemmas.List.{append-nil}
 use Rattle.std.proofs.lemmas.List.Elements.{All-append, All-cons}
 use Rattle.sota_units.specs.Memory.{◌>>=◌, or_fault}
 use Rattle.sota_text.specs.Text.{fields_of, number_of}
-use Rattle.sota_script.specs.Lines.{begins_comment}
-use Rattle.sota_report.specs.Names.{Place, node_of, parse_node, parse_name, parse_place, parse_fields, with_place, places_after}
+use Rattle.sota_script.specs.Lines.{begins_with_hash}
+use Rattle.sota_report.specs.Names.{Place, node_of, parse_node, parse_place_name, parse_place, parse_place_fields, with_place, places_after}
 use Rattle.sota_report.specs.Laws.{are_new, IsAtNode}
 use Rattle.sota_report.specs.declared.fault.NamesFault.TheVariants.{Number, NodeRange, RepeatedName}
 
@@ -61,13 +61,13 @@ place_in_range nodes line (node ∷ []) place h = absurd (grind (arith, h))
 place_in_range nodes line (node ∷ name ∷ more ∷ fields) place h = absurd (grind (arith, h))
 place_in_range nodes line (node ∷ name ∷ []) place h =
     let read = bound (parse_node nodes line node) _ place h in
-    let named = bound (parse_name line name) _ place read.2 in
+    let named = bound (parse_place_name line name) _ place read.2 in
     let is : (named.0, read.0) ≡ place = cc named.2 in
     subst (IsAtNode nodes) is (node_in_range nodes line node read.0 read.1)
 
-found_in_range : (nodes line : ℕ) (fields : List (List ℕ)) (place : Place) → parse_fields nodes line fields ≡ Ok (Some place) → IsAtNode nodes place
+found_in_range : (nodes line : ℕ) (fields : List (List ℕ)) (place : Place) → parse_place_fields nodes line fields ≡ Ok (Some place) → IsAtNode nodes place
 found_in_range nodes line [] place h = absurd (grind (arith, h))
-found_in_range nodes line (first ∷ more) place h = by (begins_comment first) h
+found_in_range nodes line (first ∷ more) place h = by (begins_with_hash first) h
   where
     by : (b : Bool) → cond b (Ok None) (parse_place nodes line (first ∷ more) >>= λ place. Ok (Some place)) ≡ Ok (Some place) → IsAtNode nodes place
     by true h = absurd (grind (arith, h))
@@ -95,7 +95,7 @@ added nodes line before (Some place) places sound inside h =
 pub all_sound : (nodes : ℕ) (before : List Place) (lines : List (ℕ × List ℕ)) (places : List Place) → Sound nodes before → places_after nodes before lines ≡ Ok places → Sound nodes places
 all_sound nodes before [] places sound h = let is : before ≡ places = cc h in subst (Sound nodes) is sound
 all_sound nodes before (line ∷ lines) places sound h =
-    let found = bound (parse_fields nodes line.0 (fields_of line.1)) _ places h in
+    let found = bound (parse_place_fields nodes line.0 (fields_of line.1)) _ places h in
     let more = bound (with_place before line.0 found.0) _ places found.2 in
     all_sound nodes more.0 lines places
     (added nodes line.0 before found.0 more.0 sound (λ place e. found_in_range nodes line.0 (fields_of line.1) place (found.1 ∙ ap Ok e)) more.1)

@@ -5,13 +5,13 @@ use Rattle.std.specs.Str.{IsUtf8, is_utf8, bytes_eq}
 use Rattle.std.specs.Cmp.Lexicographic.{bytes_decides}
 use Rattle.std.proofs.lemmas.List.Elements.{All-append, All-cons, All-head, All-tail}
 use Rattle.std.proofs.lemmas.Str.{IsUtf8-from_is_utf8, is_utf8-from_IsUtf8}
-use Rattle.sota_report.specs.Names.{Place, node_of, parse_name}
+use Rattle.sota_report.specs.Names.{Place, node_of, parse_place_name}
 use Rattle.sota_report.specs.declared.fault.NamesFault.TheVariants.{NotText}
 
-pub name_read : (line : ℕ) (field : List ℕ) → IsUtf8 field → parse_name line field ≡ Ok field
+pub name_read : (line : ℕ) (field : List ℕ) → IsUtf8 field → parse_place_name line field ≡ Ok field
 name_read line field is = rw (is_utf8-from_IsUtf8 field is) refl
 
-pub no_name : (line : ℕ) (field : List ℕ) → ¬ (IsUtf8 field) → parse_name line field ≡ Err (NotText line)
+pub no_name : (line : ℕ) (field : List ℕ) → ¬ (IsUtf8 field) → parse_place_name line field ≡ Err (NotText line)
 no_name line field not =
     elim (is_utf8 field) as (λ b. is_utf8 field ≡ b → cond b (Ok field) (Err (NotText line)) ≡ Err (NotText line)) [
       | true ↦ λ is. absurd (not (IsUtf8-from_is_utf8 field is))

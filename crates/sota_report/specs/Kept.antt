@@ -26,7 +26,7 @@ abbrev pub ShowsFirsts : List Place → List (Option ℕ) → Type 0
 ShowsFirsts places firsts = (node : ℕ) → ShowsFirst places node (get_or firsts node None)
 
 -- names are texts, and the first one of each node is shown
-pub record AreKept (places : List Place) (firsts : List (Option ℕ)) : Type 0 where
+pub record AreNamesKept (places : List Place) (firsts : List (Option ℕ)) : Type 0 where
   pub texts : All (λ place. IsUtf8 place.0) places
   pub firsts_shown : ShowsFirsts places firsts
 

@@ -4,7 +4,7 @@ use Rattle.std.specs.Prelude.{Option, Some, None, Result, Ok, Err, if◌then◌e
 use Rattle.std.specs.Str.{bytes_eq, is_utf8}
 use Rattle.sota_units.specs.Memory.{◌>>=◌, or_fault}
 use Rattle.sota_text.specs.Text.{fields_of, number_of, numbered_lines}
-use Rattle.sota_script.specs.Lines.{begins_comment}
+use Rattle.sota_script.specs.Lines.{begins_with_hash}
 use Rattle.sota_report.specs.declared.fault.NamesFault.{NamesFault}
 use Rattle.sota_report.specs.declared.fault.NamesFault.TheVariants.{Fields, Number, NodeRange}
 use Rattle.sota_report.specs.declared.fault.NamesFault.TheVariants.{NotText, RepeatedName}
@@ -36,22 +36,22 @@ parse_node nodes line field = do
   if nat_lt 0 node && nat_le node nodes then Ok node else Err (NodeRange line)
 
 -- a name is text
-abbrev pub parse_name : ℕ → List ℕ → Result (List ℕ) NamesFault
-parse_name line field = if is_utf8 field then Ok field else Err (NotText line)
+abbrev pub parse_place_name : ℕ → List ℕ → Result (List ℕ) NamesFault
+parse_place_name line field = if is_utf8 field then Ok field else Err (NotText line)
 
 -- 'NODE NAME' and no more
 abbrev pub parse_place : ℕ → ℕ → List (List ℕ) → Result Place NamesFault
 parse_place nodes line (node ∷ name ∷ []) = do
   node ← parse_node nodes line node
-  name ← parse_name line name
+  name ← parse_place_name line name
   Ok (name, node)
 parse_place nodes line _ = Err (Fields line)
 
 -- a blank line and a comment have no place
-abbrev pub parse_fields : ℕ → ℕ → List (List ℕ) → Result (Option Place) NamesFault
-parse_fields nodes line [] = Ok None
-parse_fields nodes line (first ∷ more) =
-    if begins_comment first then Ok None
+abbrev pub parse_place_fields : ℕ → ℕ → List (List ℕ) → Result (Option Place) NamesFault
+parse_place_fields nodes line [] = Ok None
+parse_place_fields nodes line (first ∷ more) =
+    if begins_with_hash first then Ok None
     else (do
       place ← parse_place nodes line (first ∷ more)
       Ok (Some place))
@@ -69,7 +69,7 @@ with_place before line (Some place) =
 abbrev pub places_after : ℕ → List Place → List (ℕ × List ℕ) → Result (List Place) NamesFault
 places_after nodes before [] = Ok before
 places_after nodes before (line ∷ lines) = do
-  place ← parse_fields nodes line.0 (fields_of line.1)
+  place ← parse_place_fields nodes line.0 (fields_of line.1)
   places ← with_place before line.0 place
   places_after nodes places lines
 

@@ -4,7 +4,8 @@ ghost use Rattle.sota_units.specs.Memory.{AnswersBy, Answers};
 ghost use Rattle.sota_text.specs.Text.{fields_of};
 ghost use Rattle.sota_text.specs.Spans.{bytes_of, AreWithin};
 ghost use Rattle.sota_report.specs.Words.{is_shortage};
-ghost use Rattle.sota_report.specs.Names.{parse_fields, parse_place, parse_node, parse_name};
+ghost use Rattle.sota_report.specs.Names.{parse_place_fields, parse_place, parse_node};
+ghost use Rattle.sota_report.specs.Names.{parse_place_name};
 
 use crate::NamesFault;
 use sota_script::begins_comment;
@@ -14,7 +15,7 @@ use sota_text::{Fields, read_u32};
 /// where the line is blank or a comment, whose first field begins with `#`.
 pub fn read_place(nodes: u32, number: u32, line: &[u8]) -> Result<Option<(&str, u32)>, NamesFault>
     ensures { AnswersBy is_shortage (option_map (λ place. (place.0.now, place.1))) result
-        (parse_fields nodes number (fields_of line.now)) }
+        (parse_place_fields nodes number (fields_of line.now)) }
 {
     let mut fields = Fields::new(line);
     let Some(first) = fields.next() else {
@@ -62,7 +63,7 @@ fn read_node(nodes: u32, number: u32, field: &[u8]) -> Result<u32, NamesFault>
 /// The name that a field is.
 #[tactic(auto, using(crate::proofs::Texts::name_read, crate::proofs::Texts::no_name))]
 fn read_name(number: u32, field: &[u8]) -> Result<&str, NamesFault>
-    ensures { AnswersBy is_shortage (λ name. name.now) result (parse_name number field.now) }
+    ensures { AnswersBy is_shortage (λ name. name.now) result (parse_place_name number field.now) }
 {
     str::from_utf8(field).map_err(|_| NamesFault::NotText(number))
 }

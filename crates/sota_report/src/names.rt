@@ -28,13 +28,13 @@ pub struct Names {
 impl Model for Names {
     ghost use Rattle.std.specs.Prelude.{List};
     ghost use Rattle.sota_report.specs.Names.{Place};
-    ghost use Rattle.sota_report.specs.Kept.{places_in, AreKept};
+    ghost use Rattle.sota_report.specs.Kept.{places_in, AreNamesKept};
 
     ghost Value = { List Place };
 
     ghost view = { λ names. places_in names.nodes.entries };
 
-    ghost invariant = { λ names. AreKept (places_in names.nodes.entries) names.firsts.items };
+    ghost invariant = { λ names. AreNamesKept (places_in names.nodes.entries) names.firsts.items };
 }
 
 impl Names {

@@ -41,7 +41,7 @@ route_result net dest budget route = elim (route_fault net dest budget route) [
 -- what is true of the two bounds for who keeps to the route from node o: they enclose the exact
 -- chance, differ by at most a unit an arc, and the lower one is at most the upper bound of an ask
 -- from there
-pub record IsBracket (net : Net) (dest : ℕ) (route : List ℕ) (o t : ℕ) (answer : RouteAnswer)
+pub record IsRouteBracket (net : Net) (dest : ℕ) (route : List ℕ) (o t : ℕ) (answer : RouteAnswer)
     : Type 0 where
   pub encloses : EnclosesRoute net dest route o t answer.lower answer.upper
   pub order : answer.lower ≤ answer.upper

@@ -11,7 +11,7 @@ ghost use Rattle.sota_network.specs.Grid.{weighed};
 ghost use Rattle.sota_sums.specs.Bounds.{rounded_in};
 ghost use Rattle.sota_route.specs.Faults.{is_shortage};
 ghost use Rattle.sota_route.specs.Routes.{start_of};
-ghost use Rattle.sota_route.specs.Bounds.{route_result, route_value, value_before, IsBracket};
+ghost use Rattle.sota_route.specs.Bounds.{route_result, route_value, value_before, IsRouteBracket};
 
 use crate::fault::{RouteFault, find_route_fault};
 use crate::laws::routes_are_enclosed;
@@ -46,7 +46,7 @@ pub fn route_bracket(
 ) -> Result<RouteAnswer, RouteFault>
     ensures value { Answers is_shortage result (route_result network.now dest budget route.now) }
     ensures bracket { IfOk result (λ answer. (o : ℕ) → start_of network.now route.now ≡ Some o
-        → IsBracket network.now dest route.now o budget answer) }
+        → IsRouteBracket network.now dest route.now o budget answer) }
 {
     routes_are_enclosed();
     if let Some(fault) = find_route_fault(network, dest, budget, route) {

@@ -4,7 +4,7 @@ ghost use Rattle.std.specs.Prelude.{ℕ, ◌≡◌, List, Some, None};
 ghost use Rattle.sota_network.specs.Network.{Net, IsNet};
 ghost use Rattle.sota_route.specs.Faults.{route_fault};
 ghost use Rattle.sota_route.specs.Routes.{start_of};
-ghost use Rattle.sota_route.specs.Bounds.{IsBracket, route_answer};
+ghost use Rattle.sota_route.specs.Bounds.{IsRouteBracket, route_answer};
 
 use sota_network::laws::{arcs_by_number, grid_encloses, sums_and_scores};
 
@@ -13,7 +13,7 @@ use sota_network::laws::{arcs_by_number, grid_encloses, sums_and_scores};
 pub fn routes_are_enclosed()
     ensures { (net : Net) (dest t o : ℕ) (route : List ℕ) → IsNet net
         → route_fault net dest t route ≡ None → start_of net route ≡ Some o
-        → IsBracket net dest route o t (route_answer net dest route t) }
+        → IsRouteBracket net dest route o t (route_answer net dest route t) }
 {
     arcs_by_number();
     grid_encloses();

@@ -154,14 +154,14 @@ parse_command first words =
 -- ---- lines
 
 -- comments begin with a '#'
-abbrev pub begins_comment : List ℕ → Bool
-begins_comment first = slice_index first 0 == 35
+abbrev pub begins_with_hash : List ℕ → Bool
+begins_with_hash first = slice_index first 0 == 35
 
 -- by the first field: none or one that begins with '#', or the word of a command
 abbrev pub parse_fields : List (List ℕ) → Result (Option Command) LineFault
 parse_fields [] = Ok None
 parse_fields (first ∷ words) =
-    if begins_comment first then Ok None
+    if begins_with_hash first then Ok None
     else (do
       command ← parse_command first words
       Ok (Some command))

@@ -4,7 +4,7 @@ ghost use Rattle.std.specs.List.{position};
 ghost use Rattle.sota_units.specs.Memory.{Answers, AnswersBy, or_fault};
 ghost use Rattle.sota_text.specs.Spans.{bytes_of, AreWithin, IsWithin};
 ghost use Rattle.sota_script.specs.Words.{is_shortage};
-ghost use Rattle.sota_script.specs.Lines.{parse_line, parse_command, begins_comment};
+ghost use Rattle.sota_script.specs.Lines.{parse_line, parse_command, begins_with_hash};
 ghost use Rattle.sota_script.specs.Lines.{parse_edit, parse_close, parse_ask_line, parse_policy};
 ghost use Rattle.sota_script.specs.Lines.{parse_bracket, parse_named};
 ghost use Rattle.sota_script.specs.Lines.{parse_route, parse_need, parse_ask, parse_number};
@@ -42,7 +42,7 @@ pub fn read_line(alloc: Global, line: &[u8]) -> Result<Option<Command>, LineFaul
 
 /// Whether a line with this first field is a comment: the field begins with `#`.
 pub fn begins_comment(first: &[u8]) -> bool
-    ensures { result ≡ begins_comment first.now }
+    ensures { result ≡ begins_with_hash first.now }
 {
     !first.is_empty() && first[0] == b'#'
 }

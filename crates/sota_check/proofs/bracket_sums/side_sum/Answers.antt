@@ -2,7 +2,7 @@ use Rattle.std.proofs.Common.{ℕ, ◌≡◌, ◌-◌, ◌*◌, Some, length, ap
 use Rattle.std.specs.List.{sum_by}
 use Rattle.std.proofs.lemmas.Option.{slice_get_read}
 use Rattle.sota_units.specs.Rounding.{ONE}
-use Rattle.sota_polfile.specs.Bracket.{row_of}
+use Rattle.sota_polfile.specs.Bracket.{bracket_row_of}
 use Rattle.sota_polfile.specs.declared.bracket_row.BracketRow.{BracketRow}
 use Rattle.sota_polfile.specs.declared.head.PolicyHead.{PolicyHead}
 use Rattle.sota_check.specs.Sides.{row_side}
@@ -32,7 +32,7 @@ returns-clause-value c =
     let long : length c.rows.result.now ≡ table.head.nodes = ap length c.rows.ensures.value ∙ c.rows.ensures.size in
     let got = slice_get_read c.rows.result.now (length c.rows.result.now) (c.get-head.result - 1) row refl (omega (arith, long, c.requires.head.0, c.requires.head.1, c.get-head.ensures)) c.index-rows-head.is in
     let there = rw (c.rows.ensures.value, c.get-head.ensures) at got in
-    let is : row_of table c.args.arc.now.head ≡ Some row = row-read table c.args.arc.now.head row c.requires.head.0 there in
+    let is : bracket_row_of table c.args.arc.now.head ≡ Some row = row-read table c.args.arc.now.head row c.requires.head.0 there in
     c.row_side_sum.ensures.value
     ∙ ap (sum_by (λ (p : ℕ × ℕ). p.1 * row_side c.args.side row (c.args.budget - p.0))) c.within-pairs.ensures
     ∙ sym (side-row table c.args.arc.now.head c.args.budget c.args.arc.now.time c.args.side off row is)

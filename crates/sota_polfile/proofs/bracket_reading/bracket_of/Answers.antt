@@ -1,66 +1,46 @@
-use Rattle.std.proofs.Common.{◌≡◌, ℕ, ◌<◌, true, false, Ok, get_or, arith}
-use Rattle.std.specs.Prelude.{nat_eq}
-use Rattle.std.specs.List.{starts_with}
+use Rattle.std.proofs.Common.{◌≡◌, ℕ, ◌<◌, Ok, get_or, arith}
 use Rattle.std.proofs.lemmas.Result.{err_from_is_err_and}
-use Rattle.sota_polfile.specs.declared.fault.PolicyFault.TheVariants.{Magic, Truncated, Range, Trailing}
+use Rattle.sota_polfile.specs.declared.fault.PolicyFault.TheVariants.{Trailing}
 use Rattle.sota_polfile.specs.Bracket.{IsBracket}
 use Rattle.sota_polfile.specs.Places.{head_at}
 use Rattle.sota_polfile.specs.BracketFile.{bracket_magic, bracket_start, bracket_of}
-use Rattle.sota_polfile.specs.Faults.{is_head}
-use Rattle.sota_polfile.proofs.FileFaults.{not_magic, short_head, bad_head, bad_rows, more_bytes}
+use Rattle.sota_polfile.proofs.FileFaults.{in_head, in_rows, more_bytes}
 use Rattle.sota_polfile.proofs.BracketFiles.{found_table, bracket_refused}
 use Rattle.sota_polfile.specs.Words.{is_shortage}
-use Rattle.sota_polfile.proofs.Replies.{unless_more}
+use Rattle.sota_polfile.proofs.Replies.{unless_from, unless_more}
 use Rattle.sota_polfile.proofs.bracket_reading.bracket_of.Goals as goal
 use Rattle.sota_polfile.proofs.bracket_reading.bracket_of.Goals.{Else-end-bytes}
 
-pub returns-then-not-starts_with : goal.returns-then-not-starts_with
-returns-then-not-starts_with c =
+pub returns-in_err-head : goal.returns-in_err-head
+returns-in_err-head c =
     let bytes = c.args.bytes.now in
-    let begins : starts_with nat_eq bytes bracket_magic ≡ false = cc in
-    bracket_refused bytes Magic (not_magic bracket_magic 28 _ _ bytes begins)
-
-pub returns-then-bytes-lt-HEAD : goal.returns-then-bytes-lt-HEAD
-returns-then-bytes-lt-HEAD c =
-    let bytes = c.args.bytes.now in
-    let begins : starts_with nat_eq bytes bracket_magic ≡ true = cc in
-    bracket_refused bytes (Truncated 0) (short_head bracket_magic 28 _ _ bytes begins (omega arith))
-
-pub returns-then-not-is_in_range : goal.returns-then-not-is_in_range
-returns-then-not-is_in_range c =
-    let bytes = c.args.bytes.now in
-    let begins : starts_with nat_eq bytes bracket_magic ≡ true = cc in
-    let bad : is_head c.head_at-head.result ≡ false = cc in
-    bracket_refused bytes (Range 0) (bad_head bracket_magic 28 _ _ bytes begins (omega arith) (rw c.head_at-head.ensures at bad))
+    let fault = c.in_err-head.field-0.0 in
+    let p = err_from_is_err_and c.from_residual.result c.from_residual.ensures.1 in
+    rw (p.1, p.2) (unless_from (is_shortage fault) (bracket_refused bytes fault (in_head bracket_magic 28 _ _ bytes fault c.in_err-head.ensures.fault)))
 
 pub returns-in_err-rows : goal.returns-in_err-rows
 returns-in_err-rows c =
     let bytes = c.args.bytes.now in
-    let begins : starts_with nat_eq bytes bracket_magic ≡ true = cc in
-    let good : is_head c.head_at-head.result ≡ true = cc in
-    let p = err_from_is_err_and c.from_residual.result c.from_residual.ensures.1 in
-    let given = rw c.head_at-head.ensures at c.in_err-rows.ensures.fault in
-    rw (p.1, p.2) (unless_more (is_shortage c.in_err-rows.field-0.0) (λ found. bracket_refused bytes c.in_err-rows.field-0.0 (bad_rows bracket_magic 28 _ _ bytes c.in_err-rows.field-0.0 begins (omega arith) (rw c.head_at-head.ensures at good) found)) given)
+    let fault = c.in_err-rows.field-0.0 in
+    let p = err_from_is_err_and c.from_residual-in_err-rows.result c.from_residual-in_err-rows.ensures.1 in
+    let given = rw c.in_ok-head.ensures.head at c.in_err-rows.ensures.fault in
+    rw (p.1, p.2) (unless_more (is_shortage fault) (λ found. bracket_refused bytes fault (in_rows bracket_magic 28 _ _ bytes fault c.in_ok-head.ensures.none found)) given)
 
 pub returns-then-end-bytes : goal.returns-then-end-bytes
 returns-then-end-bytes c =
     let bytes = c.args.bytes.now in
-    let begins : starts_with nat_eq bytes bracket_magic ≡ true = cc in
-    let good : is_head c.head_at-head.result ≡ true = cc in
-    let none = rw c.head_at-head.ensures at c.in_ok-rows.ensures.none in
-    let end : c.in_ok-rows.end ≡ bracket_start bytes (head_at bytes).nodes = rw c.head_at-head.ensures at c.in_ok-rows.ensures.end.0 in
-    rw end (bracket_refused bytes (Trailing (bracket_start bytes (head_at bytes).nodes)) (more_bytes bracket_magic 28 _ _ bytes begins (omega arith) (rw c.head_at-head.ensures at good) none (omega arith)))
+    let none = rw c.in_ok-head.ensures.head at c.in_ok-rows.ensures.none in
+    let end : c.in_ok-rows.end ≡ bracket_start bytes (head_at bytes).nodes = rw c.in_ok-head.ensures.head at c.in_ok-rows.ensures.end.0 in
+    rw end (bracket_refused bytes (Trailing (bracket_start bytes (head_at bytes).nodes)) (more_bytes bracket_magic 28 _ _ bytes c.in_ok-head.ensures.none none (omega arith)))
 
 -- the head and the rows that were read are a table, and the bytes say it
-said : (c : Else-end-bytes) → IsBracket (record { head = c.head_at-head.result; rows = c.in_ok-rows.rows.items }) × (bracket_of c.args.bytes.now ≡ Ok (record { head = c.head_at-head.result; rows = c.in_ok-rows.rows.items }))
+said : (c : Else-end-bytes) → IsBracket (record { head = c.in_ok-head.head; rows = c.in_ok-rows.rows.items }) × (bracket_of c.args.bytes.now ≡ Ok (record { head = c.in_ok-head.head; rows = c.in_ok-rows.rows.items }))
 said c =
     let bytes = c.args.bytes.now in
     let fits : (i : ℕ) → get_or bytes i 0 < 256 = λ i. omega (arith, c.type_inv.bytes i) in
-    found_table bytes c.head_at-head.result c.in_ok-rows.rows.items c.in_ok-rows.end fits (record {
-      begins = cc;
-      long = omega arith;
-      head_is = c.head_at-head.ensures;
-      in_range = cc;
+    found_table bytes c.in_ok-head.head c.in_ok-rows.rows.items c.in_ok-rows.end fits (record {
+      head_none = c.in_ok-head.ensures.none;
+      head_is = c.in_ok-head.ensures.head;
       rows_are = c.in_ok-rows.ensures.rows;
       none = c.in_ok-rows.ensures.none;
       end_is = c.in_ok-rows.ensures.end.0;

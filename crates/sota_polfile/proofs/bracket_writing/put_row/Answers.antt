@@ -1,5 +1,5 @@
 use Rattle.std.proofs.Common.{[], ◌∷◌, length}
-use Rattle.sota_polfile.specs.Spelling.{numbers}
+use Rattle.sota_polfile.specs.Spelling.{spelled_numbers}
 use Rattle.sota_polfile.specs.BracketFile.{spelled_bracket_entry, spelled_bracket_row}
 use Rattle.sota_polfile.proofs.Lists.{joined}
 use Rattle.sota_polfile.proofs.bracket_writing.put_row.Goals as goal
@@ -11,4 +11,4 @@ returns c =
     let front = rw c.len.ensures.value at c.in_ok-put_numbers.ensures in
     let entries = rw c.as_slice-entry-items.ensures.value at c.loop-entry.invariant in
     let all = rw c.as_slice-entry-items.ensures.value at c.loop-entry-test.false in
-    joined spelled_bracket_entry c.loop-entry.out.items c.put_numbers.new.out.items c.args.out.now.items (numbers (row.first ∷ length row.entries ∷ [])) row.entries c.loop-entry.entry-index entries front all
+    joined spelled_bracket_entry c.loop-entry.out.items c.put_numbers.new.out.items c.args.out.now.items (spelled_numbers (row.first ∷ length row.entries ∷ [])) row.entries c.loop-entry.entry-index entries front all

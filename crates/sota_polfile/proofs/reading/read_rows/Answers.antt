@@ -2,7 +2,7 @@ use Rattle.std.proofs.Common.{◌≡◌, ◌∙◌, ℕ, suc, ◌+◌, ◌-◌, 
 use Rattle.std.proofs.lemmas.Result.{err_from_is_err_and}
 use Rattle.std.proofs.lemmas.List.FromFn.{length-map-range_with_len, map-range_with_len_more}
 use Rattle.sota_polfile.specs.declared.row.PolicyRow.{PolicyRow}
-use Rattle.sota_polfile.specs.Places.{row_head_at, row_at, start, node_before}
+use Rattle.sota_polfile.specs.Places.{row_head_at, policy_row_at, start, node_before}
 use Rattle.sota_polfile.specs.Words.{is_shortage}
 use Rattle.sota_polfile.specs.Faults.{row_fault}
 use Rattle.sota_polfile.proofs.FileFaults.{among_passed, among_found, among_none}
@@ -24,7 +24,7 @@ returns-in_err-row-clause-fault c =
     let p = err_from_is_err_and c.from_residual.result c.from_residual.ensures.1 in
     let left : c.args.count - k ≡ suc (c.args.count - (k + 1)) = omega arith in
     let given = rw (c.requires.head, invariant.at, invariant.before) at c.in_err-row.ensures in
-    rw (p.1, p.2) (unless_more (is_shortage c.in_err-row.field-0.0) (λ refusal. sym invariant.so_far ∙ rw left (among_found (row_fault bytes) k (c.args.count - (k + 1)) c.in_err-row.field-0.0 (fault_or_err (row_fault bytes k) (row_at bytes (start bytes k)) c.in_err-row.field-0.0 refusal))) given)
+    rw (p.1, p.2) (unless_more (is_shortage c.in_err-row.field-0.0) (λ refusal. sym invariant.so_far ∙ rw left (among_found (row_fault bytes) k (c.args.count - (k + 1)) c.in_err-row.field-0.0 (fault_or_err (row_fault bytes k) (policy_row_at bytes (start bytes k)) c.in_err-row.field-0.0 refusal))) given)
 
 pub loop-k-preserved : goal.loop-k-preserved
 loop-k-preserved c =
@@ -33,13 +33,13 @@ loop-k-preserved c =
     let invariant = c.loop-k.invariant in
     let row = c.in_ok-row.row in
     let given = rw (c.requires.head, invariant.at, invariant.before) at c.in_ok-row.ensures in
-    let read = fault_or_ok (row_fault bytes k) (row_at bytes (start bytes k)) row given in
+    let read = fault_or_ok (row_fault bytes k) (policy_row_at bytes (start bytes k)) row given in
     let head = row_head_at bytes (start bytes k) in
     let pass = passes bytes _ (start bytes k) (node_before bytes k) (k + 1) read.0 in
     let node : head.node ≡ row.node = ap (λ (r : PolicyRow). r.node) read.1 in
     let count : length row.entries ≡ head.count = ap (λ (r : PolicyRow). length r.entries) (sym read.1) ∙ length-map-range_with_len _ 0 head.count in
     let next = start_after bytes k in
-    let more = map-range_with_len_more (λ j. row_at bytes (start bytes j)) 0 k k (omega arith) in
+    let more = map-range_with_len_more (λ j. policy_row_at bytes (start bytes j)) 0 k k (omega arith) in
     let left : c.args.count - k ≡ suc (c.args.count - (k + 1)) = omega arith in
     record {
       at = omega (arith, next, count, c.len.ensures.value, invariant.at);

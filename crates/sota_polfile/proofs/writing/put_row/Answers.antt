@@ -1,5 +1,5 @@
 use Rattle.std.proofs.Common.{[], ◌∷◌, length}
-use Rattle.sota_polfile.specs.Spelling.{numbers, spelled_entry, spelled_row}
+use Rattle.sota_polfile.specs.Spelling.{spelled_numbers, spelled_entry, spelled_row}
 use Rattle.sota_polfile.proofs.Lists.{joined}
 use Rattle.sota_polfile.proofs.writing.put_row.Goals as goal
 
@@ -10,4 +10,4 @@ returns c =
     let front = rw c.len.ensures.value at c.in_ok-put_numbers.ensures in
     let entries = rw c.as_slice-entry-items.ensures.value at c.loop-entry.invariant in
     let all = rw c.as_slice-entry-items.ensures.value at c.loop-entry-test.false in
-    joined spelled_entry c.loop-entry.out.items c.put_numbers.new.out.items c.args.out.now.items (numbers (row.node ∷ row.first ∷ length row.entries ∷ [])) row.entries c.loop-entry.entry-index entries front all
+    joined spelled_entry c.loop-entry.out.items c.put_numbers.new.out.items c.args.out.now.items (spelled_numbers (row.node ∷ row.first ∷ length row.entries ∷ [])) row.entries c.loop-entry.entry-index entries front all

@@ -3,7 +3,7 @@ use Rattle.std.proofs.lemmas.Bool.{eq-eqb}
 use Rattle.sota_network.specs.Network.{Net}
 use Rattle.sota_network.specs.Region.{need}
 use Rattle.sota_bounds.specs.declared.ask.AskRegion.{AskRegion}
-use Rattle.sota_kept.specs.Laws.{ListLaws}
+use Rattle.sota_network.specs.Laws.{ListLaws}
 use Rattle.sota_kept.specs.Ticks.{least_to}
 use Rattle.sota_kept.specs.States.{State, front_of, base_of, grown_state, missing_in}
 use Rattle.sota_kept.specs.TableLists.{state_of}
@@ -16,7 +16,7 @@ returns-clause-bounds g c =
     let net : Net = c.args.network.now in
     let region : AskRegion = c.args.region.now in
     let valid = c.nodes.ensures.valid in
-    let lists : ListLaws = record { count = c.lists_by_number.ensures.count; entry = c.lists_by_number.ensures.entry; agree = c.lists_by_number.ensures.agree } in
+    let lists : ListLaws = c.lists_by_number.ensures in
     let first : State = state_of (lists_of c.in_ok-tables.tables) in
     let mid : TablesView = c.prepare.new.tables in
     let new : TablesView = c.extend.new.tables in
