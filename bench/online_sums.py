@@ -28,7 +28,7 @@ ghost use Rattle.std.specs.Prelude.{◌≡◌, ◌<◌, ◌≤◌, false};
 ghost use Rattle.sota_hist.specs.Time.{is_closed};
 
 use sota_hist::Histogram;
-use sota_online::{BlockSummer, PlainSummer, Summer};
+use sota_online::{BlockSummer, PlainSummer, Summer, Workspace};
 use sota_units::{Grain, Mass, Scale, Steps, Tick};
 use std::alloc::Global;
 use std::io;
@@ -47,19 +47,27 @@ fn all_sums<S: Summer, M: Ledger>(
     requires open { is_closed time.now ≡ false }
     requires length { length ≤ 65536 }
 {
-    let mut summer = match S::make(alloc, time, length) {
+    let mut summer = match S::make(alloc, time, length, 1) {
         Ok(summer) => summer,
+        Err(_) => return 0,
+    };
+    let span = summer.span();
+    if span > 65_536 {
+        return 0;
+    }
+    let mut workspace = match Workspace::make(alloc, span) {
+        Ok(workspace) => workspace,
         Err(_) => return 0,
     };
     let mut all = 0u128;
     let mut seed = start;
-    for _ in 0..length {
+    for _turn in 0..length {
         if summer.room() == 0 {
             return all;
         }
         seed = seed.wrapping_mul(6364136223846793005).wrapping_add(1);
         let value = Grain::new(seed >> 5).unwrap_or(Grain::ZERO);
-        summer.feed(value, products);
+        summer.feed(value, &mut workspace, products);
         let position = summer.fed();
         if position > 0 {
             all = all.wrapping_add(summer.sum(position).get());
@@ -79,21 +87,29 @@ fn many_sums<S: Summer, M: Ledger>(
     requires open { is_closed time.now ≡ false }
     requires length { length ≤ 65536 }
 {
-    let mut summer = match S::make(alloc, time, length) {
+    let mut summer = match S::make(alloc, time, length, 1) {
         Ok(summer) => summer,
+        Err(_) => return 0,
+    };
+    let span = summer.span();
+    if span > 65_536 {
+        return 0;
+    }
+    let mut workspace = match Workspace::make(alloc, span) {
+        Ok(workspace) => workspace,
         Err(_) => return 0,
     };
     let mut all = 0u128;
     let mut seed = start;
     let mut sums = [0u128; 64];
-    for _ in 0..length / 64 {
-        for _ in 0..64 {
+    for _block in 0..length / 64 {
+        for _turn in 0..64 {
             if summer.room() == 0 {
                 return all;
             }
             seed = seed.wrapping_mul(6364136223846793005).wrapping_add(1);
             let value = Grain::new(seed >> 5).unwrap_or(Grain::ZERO);
-            summer.feed(value, products);
+            summer.feed(value, &mut workspace, products);
         }
         let fed = summer.fed();
         if fed >= 64 {
@@ -227,6 +243,20 @@ abbrev pub ghosts-time_plain : goal.ghosts-time_plain
 ghosts-time_plain a = record { name = a.blank.name; parts = a.blank.parts }
 """
 
+# What the loops keep: the start, and that the room is long enough for the kernel.
+KEPT = """\
+use Rattle.std.proofs.Common.{◌≡◌, ◌≤◌, length}
+use Rattle.online_speed.proofs.FUNCTION.Given as goal
+"""
+
+LOOP = """
+abbrev pub invariant-loop-NAME : goal.invariant-loop-NAME
+invariant-loop-NAME g l = record {
+  start : (g.S.Summer.state l.summer).start ≡ 1;
+  room : length (g.S.Summer.state l.summer).kernel ≤ l.workspace;
+}
+"""
+
 C = r"""
 #include <stdint.h>
 #include <stdio.h>
@@ -303,6 +333,9 @@ def make(folder):
     program = f"{folder}/crates/online_speed"
     write(f"{program}/src/main.rt", filled(MAIN))
     write(f"{program}/proofs/spans/Invariants.antt", PICKS)
+    for function, loops in [("all_sums", ["turn"]), ("many_sums", ["block", "turn"])]:
+        kept = KEPT.replace("FUNCTION", function) + "".join(LOOP.replace("NAME", name) for name in loops)
+        write(f"{program}/proofs/{function}/Invariants.antt", kept)
     subprocess.run(["rt", "run"], cwd=program, check=True, stdout=subprocess.DEVNULL)
     made = {"": f"{program}/out/online_speed"}
     write(f"{folder}/sums.c", filled(C))

@@ -1,18 +1,17 @@
 -- Where an entry is certain and takes the first arc of its node, so does each later one.
-use Rattle.std.proofs.Common.{ℕ, ◌≡◌, ◌≢◌, ◌+◌, ◌-◌, ◌*◌, ◌%◌, ◌<◌, ◌≤◌, ◌==◌, List, [], ◌∷◌, length, get_or, slice_get, None, Some, sym, ◌∙◌, ap, subst, arith}
+use Rattle.std.proofs.Common.{ℕ, ◌≡◌, ◌≢◌, ◌+◌, ◌-◌, ◌*◌, ◌%◌, ◌<◌, ◌≤◌, ◌==◌, List, [], ◌∷◌, length, get_or, take, take_all, slice_get, None, Some, refl, sym, ◌∙◌, ap, subst, arith}
 use Rattle.std.proofs.lemmas.Bool.{eq-eqb, ne_eqb, le-ltb}
 use Rattle.std.proofs.lemmas.Nat.{div-add-mod'}
 use Rattle.std.proofs.lemmas.Option.{slice_get_within, get_or_from_slice_get}
 use Rattle.sota_units.specs.Rounding.{ONE, floor_by}
 use Rattle.sota_network.specs.Network.{Net}
-use Rattle.sota_network.specs.Numbers.{numbers}
-use Rattle.sota_network.specs.Grid.{lo, choice, plain_sum, best_of}
+use Rattle.sota_network.specs.Grid.{lo, choice, choice_of, plain_sum, best_of}
 use Rattle.sota_network.specs.declared.network.Arc.{Arc}
 use Rattle.sota_kept.specs.NodeTables.{NodeTable, IsReadyAt, known_end}
 use Rattle.sota_kept.specs.Asks.{IsGridEntry}
 use Rattle.sota_fill.specs.Certain.{EndsCertain}
 use Rattle.sota_fill.specs.Laws.{Fillable}
-use Rattle.sota_fill.proofs.Among.{best_among, choice_among, worth, worth-out, best-all, choice-all}
+use Rattle.sota_network.specs.Among.{leaving_numbers, best_among, choice_among, numbered_worth}
 use Rattle.sota_fill.proofs.Pushing.{sum-le}
 
 -- a sum whose quotient is one whole
@@ -42,7 +41,7 @@ module _ (net : Net) (laws : Fillable net) (dest i : ℕ) (off : i ≢ dest) whe
       let most : best_of net.arcs (worth_at t) i ≤ net.scale * ONE = sum-le net laws (lo net dest) (λ j u _. omega (arith, laws.order dest j u, laws.whole dest j u)) i t in
       omega arith
 
-  later-certain : (e t u : ℕ) → t ≤ u → lo net dest i t ≡ ONE → choice net dest i t ≡ Some e → slice_get (numbers (λ (arc : Arc). arc.tail == i) 1 net.arcs) 0 ≡ Some e
+  later-certain : (e t u : ℕ) → t ≤ u → lo net dest i t ≡ ONE → choice net dest i t ≡ Some e → slice_get (leaving_numbers net i) 0 ≡ Some e
       → IsGridEntry net dest i u (record { lower = ONE; upper = ONE; choice = Some e })
   later-certain e t u later is chosen head =
       let now : lo net dest i u ≡ ONE = omega (arith, is, laws.rise dest i t u later, laws.order dest i u, laws.whole dest i u) in
@@ -50,13 +49,16 @@ module _ (net : Net) (laws : Fillable net) (dest i : ℕ) (off : i ≢ dest) whe
       let arc : Arc = first.arc in
       let then_worth : worth_at t arc ≡ net.scale * ONE = first.greatest ∙ whole-best t is in
       let rises : worth_at t arc ≤ worth_at u arc = laws.sums.rise (lo net dest arc.head) t u arc.time (laws.arc e arc first.number).time (λ a b _ up. laws.rise dest arc.head a b up) later in
-      let numbered : worth_at u arc ≡ worth net (worth_at u) e = worth-out net (worth_at u) e arc first.number in
-      let best : best_among (worth net (worth_at u)) (numbers (λ (arc : Arc). arc.tail == i) 1 net.arcs) ≡ net.scale * ONE = sym (best-all net (worth_at u) i) ∙ whole-best u now in
+      let numbered : worth_at u arc ≡ numbered_worth net (worth_at u) e = laws.among.number net (worth_at u) e arc first.number in
+      let es : List ℕ = leaving_numbers net i in
+      let all : take (length es) es ≡ es = take_all (length es) es (omega arith) in
+      let best : best_among (numbered_worth net (worth_at u)) es ≡ net.scale * ONE = rw all at (laws.among.best_end net (worth_at u) i es (length es) refl (omega arith)) ∙ whole-best u now in
+      let choice : choice_of net.arcs (worth_at u) i ≡ choice_among (numbered_worth net (worth_at u)) es = sym (rw all at (laws.among.choice_end net (worth_at u) i es (length es) refl (omega arith))) in
       let scale : 1 ≤ net.scale = laws.valid.scale in
       record {
         lower = sym now;
         upper = omega (arith, now, laws.order dest i u, laws.whole dest i u);
-        choice = sym (laws.choice dest i u off ∙ choice-all net (worth_at u) i ∙ choice-head (worth net (worth_at u)) (numbers (λ (arc : Arc). arc.tail == i) 1 net.arcs) e head (omega arith) (omega arith));
+        choice = sym (laws.choice dest i u off ∙ choice ∙ choice-head (numbered_worth net (worth_at u)) es e head (omega arith) (omega arith));
       }
 
   -- an entry at or after the known end of a node whose last entry is so

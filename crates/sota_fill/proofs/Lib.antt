@@ -1,4 +1,3 @@
-pub mod Among
 pub mod Below
 pub mod Feeding
 pub mod Halved

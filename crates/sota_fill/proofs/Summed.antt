@@ -18,10 +18,10 @@ use Rattle.sota_fill.proofs.PairSums.{weighed-same}
 use Rattle.sota_fill.proofs.Feeding.{rises-least}
 
 -- ---- by a bound
-pub fed-as : {Z : Type 0} (state : Z → SummerState) (net : Net) (dest : ℕ) (arc : Arc) (to : ℕ) (two : Summers Z) (bound : Bound) → AreFed state net dest arc to two
-    → IsFed (state (summer_in bound two)) arc.time (least_to net dest arc.head) (grid_in bound net dest arc.head) × Reaches (state (summer_in bound two)) arc.time (least_to net dest arc.head) to
-fed-as state net dest arc to two Lower fed = (fed.lower, fed.lower_reach)
-fed-as state net dest arc to two Upper fed = (fed.upper, fed.upper_reach)
+pub fed-as : {Z : Type 0} (state : Z → SummerState) (net : Net) (dest : ℕ) (arc : Arc) (from to : ℕ) (two : Summers Z) (bound : Bound) → AreFed state net dest arc from to two
+    → IsFed (state (summer_in bound two)) arc.time (least_to net dest arc.head) (grid_in bound net dest arc.head) × Reaches (state (summer_in bound two)) arc.time (least_to net dest arc.head) from to
+fed-as state net dest arc from to two Lower fed = (fed.lower, fed.lower_reach)
+fed-as state net dest arc from to two Upper fed = (fed.upper, fed.upper_reach)
 
 pub reads-as : (net : Net) (dest : ℕ) (arc : Arc) (to : ℕ) (tables : ℕ → NodeTable) (bound : Bound) → ReadsAs net dest arc to tables → is_closed arc.time ≡ false → (u : ℕ) → u + least_tick arc.time < to
     → value_in bound dest tables arc.head u ≡ grid_in bound net dest arc.head u
@@ -39,11 +39,11 @@ pub fed-lent : {Z : Type 0} (state : Z → SummerState) (one other : Z) (time : 
 fed-lent {Z} state one other time base least f lent at fed =
     subst (λ (b : ℕ). IsFed (state one) time b f) (sym at) (subst (λ (z : Z). IsFed (state z) time least f) (sym lent) fed)
 
--- what was fed is enough for fewer budgets
-pub all-fed-less : {Z : Type 0} (state : Z → SummerState) (net : Net) (dest i to to' : ℕ) (broad : SummersList Z) → AllFed state net dest i to broad → to' ≤ to → AllFed state net dest i to' broad
-all-fed-less {Z} state net dest i to to' broad all less e arc two number tail is =
+-- what was fed is enough for later budgets and for fewer
+pub all-fed-less : {Z : Type 0} (state : Z → SummerState) (net : Net) (dest i from from' to to' : ℕ) (broad : SummersList Z) → AllFed state net dest i from to broad → from ≤ from' → to' ≤ to → AllFed state net dest i from' to' broad
+all-fed-less {Z} state net dest i from from' to to' broad all later less e arc two number tail is =
     let fed = all e arc two number tail is in
-    record { open_arc = fed.open_arc; lower = fed.lower; upper = fed.upper; lower_reach = omega (arith, fed.lower_reach); upper_reach = omega (arith, fed.upper_reach) }
+    record { open_arc = fed.open_arc; lower = fed.lower; upper = fed.upper; lower_reach = (omega (arith, fed.lower_reach.0), omega (arith, fed.lower_reach.1)); upper_reach = (omega (arith, fed.upper_reach.0), omega (arith, fed.upper_reach.1)) }
 
 -- ---- the first items of an array, of which some were written
 pub take-long : {X : Type 0} (n : ℕ) (xs : List X) → n ≤ length xs → length (take n xs) ≡ n

@@ -8,16 +8,16 @@ use Rattle.sota_fill.specs.declared.broad.Summers.{Summers}
 use Rattle.sota_sums.specs.declared.bound.Bound.{Bound}
 use Rattle.sota_sums.specs.declared.bound.Bound.TheVariants.{Lower, Upper}
 
-abbrev pub row_in : Bound → NodeTable → List ℕ
-row_in Lower s = s.lower
-row_in Upper s = s.upper
+abbrev pub bound_row : Bound → NodeTable → List ℕ
+bound_row Lower s = s.lower
+bound_row Upper s = s.upper
 
 -- the value of node i at budget t: who stands at the destination has arrived
 abbrev pub value_in : Bound → ℕ → (ℕ → NodeTable) → ℕ → ℕ → ℕ
 value_in bound dest tables i t =
     if i == dest then ONE else
     if nat_lt t (tables i).base then 0
-    else slice_index (row_in bound (tables i)) (t - (tables i).base)
+    else slice_index (bound_row bound (tables i)) (t - (tables i).base)
 
 abbrev pub grid_in : Bound → Net → ℕ → ℕ → ℕ → ℕ
 grid_in Lower net dest i t = lo net dest i t

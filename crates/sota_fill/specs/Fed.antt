@@ -17,19 +17,26 @@ pub record IsFed (state : SummerState) (time : List (ℕ × ℕ)) (base : ℕ) (
   pub values : (a : ℕ) → a < length state.values → slice_index state.values a ≡ f (base + a)
   pub below : (u : ℕ) → u < base → f u ≡ 0
 
--- the summer was fed all that the budgets below `to` read
-abbrev pub Reaches : SummerState → List (ℕ × ℕ) → ℕ → ℕ → Type 0
-Reaches state time base to = to ≤ least_tick time + base + length state.values
+-- what feeding leaves of a summer: its kernel, its start, and how many values it can hold
+pub record IsSameSummer (old new : SummerState) : Type 0 where
+  pub kernel : new.kernel ≡ old.kernel
+  pub start : new.start ≡ old.start
+  pub total : length new.values + new.room ≡ length old.values + old.room
+
+-- the summer was fed all that the budgets from one on below `to` read, and their sums may be read
+abbrev pub Reaches : SummerState → List (ℕ × ℕ) → ℕ → ℕ → ℕ → Type 0
+Reaches state time base from to = (state.start ≤ from + 1 - (least_tick time + base))
+    × (to ≤ least_tick time + base + length state.values)
 
 -- the two summers of an open arc were fed the grid's values at its head, from the least time of the
--- head on, as far as the budgets below `to` read them
+-- head on, as far as the budgets from one on below `to` read them
 pub record AreFed {Z : Type 0} (state : Z → SummerState) (net : Net) (dest : ℕ) (arc : Arc)
-    (to : ℕ) (two : Summers Z) : Type 0 where
+    (from to : ℕ) (two : Summers Z) : Type 0 where
   pub open_arc : is_closed arc.time ≡ false
   pub lower : IsFed (state two.lower) arc.time (least_to net dest arc.head) (lo net dest arc.head)
   pub upper : IsFed (state two.upper) arc.time (least_to net dest arc.head) (hi net dest arc.head)
-  pub lower_reach : Reaches (state two.lower) arc.time (least_to net dest arc.head) to
-  pub upper_reach : Reaches (state two.upper) arc.time (least_to net dest arc.head) to
+  pub lower_reach : Reaches (state two.lower) arc.time (least_to net dest arc.head) from to
+  pub upper_reach : Reaches (state two.upper) arc.time (least_to net dest arc.head) from to
 
 -- the summers that stand for each arc by its number, where it has them
 abbrev pub SummersList : Type 0 → Type 0
@@ -43,10 +50,10 @@ abbrev pub summers_at : {Z : Type 0} → SummersList Z → ℕ → Option (Summe
 summers_at broad e = unboxed (slice_index_or broad (e - 1) None)
 
 -- those of the arcs that leave node i
-abbrev pub AllFed : {Z : Type 0} → (Z → SummerState) → Net → ℕ → ℕ → ℕ
+abbrev pub AllFed : {Z : Type 0} → (Z → SummerState) → Net → ℕ → ℕ → ℕ → ℕ
     → SummersList Z → Type 0
-AllFed state net dest i to broad = (e : ℕ) (arc : Arc) (two : _) → arc_at net e ≡ Some arc
-    → arc.tail ≡ i → summers_at broad e ≡ Some two → AreFed state net dest arc to two
+AllFed state net dest i from to broad = (e : ℕ) (arc : Arc) (two : _) → arc_at net e ≡ Some arc
+    → arc.tail ≡ i → summers_at broad e ≡ Some two → AreFed state net dest arc from to two
 
 -- the least times of the nodes of a network to a destination on it, None where there is none
 pub record IsTarget (target : Target) : Type 0 where

@@ -4,6 +4,7 @@ use Rattle.sota_units.specs.Rounding.{ONE, floor_by}
 use Rattle.sota_network.specs.Network.{Net, IsNet, IsArc, arc_at}
 use Rattle.sota_network.specs.Grid.{lo, hi, choice, best_sum, plain_sum}
 use Rattle.sota_network.specs.Grid.{best_of, choice_of, IsFirstBest}
+use Rattle.sota_network.specs.Among.{AmongLaws}
 use Rattle.sota_network.specs.Laws.{SumLaws}
 use Rattle.sota_network.specs.Reads.{Reads}
 use Rattle.sota_network.specs.declared.network.Arc.{Arc}
@@ -29,6 +30,7 @@ pub record Fillable (net : Net) : Type 0 where
   pub near : (worth other : Arc → ℕ) (g i : ℕ)
       → ((e : ℕ) (arc : Arc) → arc_at net e ≡ Some arc → worth arc ≤ other arc + g)
       → best_of net.arcs worth i ≤ best_of net.arcs other i + g
+  pub among : AmongLaws
   pub sums : SumLaws
   pub found : (worth : Arc → ℕ) (i e : ℕ) → choice_of net.arcs worth i ≡ Some e
       → IsFirstBest net worth i e

@@ -8,7 +8,7 @@ ghost use Rattle.sota_kept.specs.Ticks.{END_LIMIT};
 ghost use Rattle.sota_kept.specs.NodeTables.{lower_in, upper_in};
 ghost use Rattle.sota_tables.specs.Views.{HasNode, table_at};
 ghost use Rattle.sota_fill.specs.Beaten.{IsRaised};
-ghost use Rattle.sota_fill.specs.Bounds.{row_in, value_in};
+ghost use Rattle.sota_fill.specs.Bounds.{bound_row, value_in};
 ghost use Rattle.sota_fill.specs.Fed.{AllFed, AreFed, IsTarget, summers_at};
 ghost use Rattle.sota_fill.specs.Fills.{ReadsAs, ReadsGrid};
 ghost use Rattle.sota_fill.specs.declared.broad.Summers.{Summers};
@@ -19,7 +19,6 @@ use crate::laws::filling_laws;
 use crate::part::{Part, choose, raise};
 use crate::target::Target;
 use sota_network::Arc;
-use sota_network::laws::numbers_of_arcs;
 use sota_online::Summer;
 use sota_sums::{Bound, arc_sums, certain_sums};
 use sota_tables::Tables;
@@ -28,7 +27,7 @@ use sota_units::{ArcId, Grain, NodeId};
 /// The values of a node from its base on.
 fn row_of(tables: &Tables, node: NodeId, bound: Bound) -> &[Grain]
     requires { HasNode tables.now node }
-    ensures { result.now ≡ row_in bound (table_at tables.now node) }
+    ensures { result.now ≡ bound_row bound (table_at tables.now node) }
 {
     match bound {
         Bound::Lower => tables.lower_row(node),
@@ -68,7 +67,8 @@ fn sums_of<Z: Summer>(
     requires target { IsTarget target.now }
     requires fed { (arc : Arc) (two : Summers Z) → arc_at target.now.network.now number ≡ Some arc
         → summers_at broad.now number ≡ Some two
-        → AreFed Z.state target.now.network.now target.now.dest arc (from + length into.old) two }
+        → AreFed Z.state target.now.network.now target.now.dest arc from
+        (from + length into.old) two }
     requires reads { (arc : Arc) → arc_at target.now.network.now number ≡ Some arc
         → ReadsAs target.now.network.now target.now.dest arc (from + length into.old)
         (table_at tables.now) }
@@ -104,7 +104,7 @@ fn add_lower<Z: Summer>(
     requires target { IsTarget target.now }
     requires fed { (arc : Arc) (two : Summers Z) → arc_at target.now.network.now number ≡ Some arc
         → summers_at broad.now number ≡ Some two
-        → AreFed Z.state target.now.network.now target.now.dest arc (from + count) two }
+        → AreFed Z.state target.now.network.now target.now.dest arc from (from + count) two }
     requires reads { (arc : Arc) → arc_at target.now.network.now number ≡ Some arc
         → ReadsAs target.now.network.now target.now.dest arc (from + count) (table_at tables.now) }
     requires limit { from + count ≤ END_LIMIT }
@@ -149,7 +149,7 @@ fn add_upper<Z: Summer>(
     requires target { IsTarget target.now }
     requires fed { (arc : Arc) (two : Summers Z) → arc_at target.now.network.now number ≡ Some arc
         → summers_at broad.now number ≡ Some two
-        → AreFed Z.state target.now.network.now target.now.dest arc (from + count) two }
+        → AreFed Z.state target.now.network.now target.now.dest arc from (from + count) two }
     requires reads { (arc : Arc) → arc_at target.now.network.now number ≡ Some arc
         → ReadsAs target.now.network.now target.now.dest arc (from + count) (table_at tables.now) }
     requires limit { from + count ≤ END_LIMIT }
@@ -183,7 +183,7 @@ fn add_arc<Z: Summer>(
     requires target { IsTarget target.now }
     requires fed { (arc : Arc) (two : Summers Z) → arc_at target.now.network.now number ≡ Some arc
         → summers_at broad.now number ≡ Some two
-        → AreFed Z.state target.now.network.now target.now.dest arc (from + count) two }
+        → AreFed Z.state target.now.network.now target.now.dest arc from (from + count) two }
     requires reads { (arc : Arc) → arc_at target.now.network.now number ≡ Some arc
         → ReadsAs target.now.network.now target.now.dest arc (from + count) (table_at tables.now) }
     requires limit { from + count ≤ END_LIMIT }
@@ -228,7 +228,7 @@ pub(crate) fn find_bests<Z: Summer>(
     requires nodes { length tables.now.fronts ≡ target.now.network.now.nodes }
     requires broad { length broad.now ≡ length target.now.network.now.arcs }
     requires target { IsTarget target.now }
-    requires fed { AllFed Z.state target.now.network.now target.now.dest node (from + count)
+    requires fed { AllFed Z.state target.now.network.now target.now.dest node from (from + count)
         broad.now }
     requires reads { ReadsGrid target.now.network.now target.now.dest node (from + count)
         (table_at tables.now) }
@@ -251,7 +251,6 @@ pub(crate) fn find_bests<Z: Summer>(
         (λ arc. plain_sum arc (lower_in target.now.dest (table_at tables.now)) (from + x)) node }
 {
     filling_laws();
-    numbers_of_arcs();
     part.clear(count);
     let to = from + count as u32;
     for number in target.network.leaving(node) {

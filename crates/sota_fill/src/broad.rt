@@ -1,5 +1,5 @@
 // The sums of an arc with many pairs, from a summer that was fed the values at its head.
-ghost use Rattle.std.specs.Prelude.{ℕ, ◌≡◌, ◌+◌, ◌<◌, ◌≤◌, List, length, slice_index};
+ghost use Rattle.std.specs.Prelude.{ℕ, ◌≡◌, ◌+◌, ◌-◌, ◌<◌, ◌≤◌, List, length, slice_index};
 ghost use Rattle.sota_hist.specs.Time.{IsTime, least_tick};
 ghost use Rattle.sota_network.specs.Grid.{weighed};
 ghost use Rattle.sota_kept.specs.Ticks.{END_LIMIT};
@@ -46,9 +46,10 @@ pub(crate) fn summers_of<'a, Z: Summer>(
 }
 
 /// The sums of an arc at budgets in a row, from `from` on, where the summer was fed the values at
-/// its head from a base on, and these are 0 below it.
+/// its head from a base on, and these are 0 below it. The sum at `from` is not before its start.
 pub fn broad_sums<Z: Summer>(summer: &Z, least: u32, base: u32, from: u32, into: &mut [u128])
     requires limit { from + length into.old ≤ END_LIMIT }
+    requires start { (Z.state summer.now).start ≤ from + 1 - (least + base) }
     requires known { from + length into.old
         ≤ least + base + length (Z.state summer.now).values }
     ensures sums { (time : List (ℕ × ℕ)) (f : ℕ → ℕ) → IsTime time → least_tick time ≡ least

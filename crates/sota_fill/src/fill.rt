@@ -101,7 +101,7 @@ fn fill_part<Z: Summer, P: Ledger>(
     requires count { count ≤ 64 }
     requires broad { length broad.now ≡ length target.now.network.now.arcs }
     requires target { IsTarget target.now }
-    requires fed { AllFed Z.state target.now.network.now target.now.dest node (from + count)
+    requires fed { AllFed Z.state target.now.network.now target.now.dest node from (from + count)
         broad.now }
     ensures ready { AreReady target.now.network.now target.now.dest (table_at tables.new) }
     ensures longer { IsLonger node count tables.old tables.new }
@@ -135,7 +135,7 @@ pub fn fill_extent<Z: Summer, P: Ledger>(
     requires unfilled { IsUnfilled target.now.network.now target.now.dest node from to tables.old }
     requires broad { length broad.now ≡ length target.now.network.now.arcs }
     requires target { IsTarget target.now }
-    requires fed { AllFed Z.state target.now.network.now target.now.dest node to broad.now }
+    requires fed { AllFed Z.state target.now.network.now target.now.dest node from to broad.now }
     ensures ready { AreReady target.now.network.now target.now.dest (table_at tables.new) }
     ensures longer { IsLonger node (to - from) tables.old tables.new }
     ensures count { pushes.new ≡ pushes.old + 3 * (to - from) }

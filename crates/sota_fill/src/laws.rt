@@ -8,8 +8,8 @@ ghost use Rattle.sota_fill.specs.Fills.{ReadsGrid};
 
 use sota_kept::kept::{extents_fill, settled_entries};
 use sota_network::laws::{
-    arcs_by_number, choices_by_worth, entries_of_reads, grid_encloses, grid_recurs,
-    sums_and_scores, values_rise,
+    arcs_by_number, arcs_one_by_one, choices_by_worth, entries_of_reads, grid_encloses,
+    grid_recurs, sums_and_scores, values_rise,
 };
 
 /// The laws of networks and tables that are used here.
@@ -17,6 +17,7 @@ pub(crate) fn filling_laws()
     ensures { (net : Net) → IsNet net → Fillable net }
 {
     arcs_by_number();
+    arcs_one_by_one();
     choices_by_worth();
     entries_of_reads();
     grid_encloses();

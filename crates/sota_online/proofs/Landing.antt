@@ -83,35 +83,36 @@ module _ (masses values : List ℕ) (first k r R size blocks end : ℕ) (st : St
   weights : (j : ℕ) → meeting seg (λ a. 1) (length block) j ≡ square (numbered masses) (λ a. 1) size (k - size) k (k + j)
   weights j = ap (λ (n : ℕ). meeting seg (λ a. 1) n j) block_long ∙ landing masses seg (λ a. 1) (λ a. 1) size k j some fits is (λ a inside. refl)
 
-  pub level_step : (low high low' high' : List ℕ) (p : ℕ) → p < length low → Landed seg block k low high low' high' → length high ≡ length low → HoldsProducts (numbered masses) (λ a. get_or values a 0) (mixed first k r) R p (get_or low p 0) (get_or high p 0)
-      → HoldsProducts (numbered masses) (λ a. get_or values a 0) (mixed first k (r + 1)) R p (get_or low' p 0) (get_or high' p 0)
-  level_step low high low' high' p inside landed same held =
+  pub level_step : (start : ℕ) (low high low' high' : List ℕ) (p : ℕ) → p < length low → Landed seg block k start low high low' high' → length high ≡ length low → HoldsProducts (numbered masses) (λ a. get_or values a 0) (mixed first k r) R start p (get_or low p 0) (get_or high p 0)
+      → HoldsProducts (numbered masses) (λ a. get_or values a 0) (mixed first k (r + 1)) R start p (get_or low' p 0) (get_or high' p 0)
+  level_step start low high low' high' p inside landed same held =
       rw add-one
       (⊎_elim (λ (early : p < k).
       let none : square (numbered masses) (λ a. get_or values a 0) size (k - size) k p ≡ 0 = square-before (numbered masses) (λ a. get_or values a 0) size (k - size) k p (omega (arith, fits)) in
       let a = landed.low_before p early in
       let b = landed.high_before p early in
-      Holds-next (numbered masses) (λ a. get_or values a 0) R first k r size blocks p _ _ _ _ st below (omega arith) (omega arith) (omega arith) held)
+      Holds-next (numbered masses) (λ a. get_or values a 0) R first k r size blocks start p _ _ _ _ st below (λ wanted. omega arith) (omega arith) (omega arith) held)
       (λ (from : k ≤ p). ⊎_elim
       (λ (within : p < k + 2 * size).
       let there : k + (p - k) ≡ p = omega arith in
       let near : p - k < 2 * length block = omega (arith, block_long) in
-      let sums = rw (products (p - k), there) at (landed.sums (p - k) near (omega arith)) in
+      let wanted : start ≤ p → start ≤ k + (p - k) = λ late. omega arith in
+      let sums = λ (late : start ≤ p). rw (products (p - k), there) at (landed.sums (p - k) near (omega arith) (wanted late)) in
       let lows = rw (weights (p - k), there) at (landed.low_small (p - k) near (omega arith)) in
       let highs = rw (weights (p - k), there) at (landed.high_small (p - k) near (omega arith)) in
-      Holds-next (numbered masses) (λ a. get_or values a 0) R first k r size blocks p _ _ _ _ st below sums lows highs held)
+      Holds-next (numbered masses) (λ a. get_or values a 0) R first k r size blocks start p _ _ _ _ st below sums lows highs held)
       (λ (past : k + 2 * size ≤ p).
       let none : square (numbered masses) (λ a. get_or values a 0) size (k - size) k p ≡ 0 = square-after (numbered masses) (λ a. get_or values a 0) size (k - size) k p (omega arith) in
       let a = landed.low_after p (omega (arith, block_long)) in
       let b = landed.high_after p (omega (arith, block_long)) in
-      Holds-next (numbered masses) (λ a. get_or values a 0) R first k r size blocks p _ _ _ _ st below (omega arith) (omega arith) (omega arith) held)
+      Holds-next (numbered masses) (λ a. get_or values a 0) R first k r size blocks start p _ _ _ _ st below (λ wanted. omega arith) (omega arith) (omega arith) held)
       (cases_lt p (k + 2 * size)))
       (cases_lt p k))
 
   -- and it fits
-  pub level_fits : (low high : ℕ) (j : ℕ) → sum masses ≤ SCALE_LIMIT → HoldsProducts (numbered masses) (λ a. get_or values a 0) (mixed first k r) R (k + j) low high
+  pub level_fits : (start low high : ℕ) (j : ℕ) → sum masses ≤ SCALE_LIMIT → HoldsProducts (numbered masses) (λ a. get_or values a 0) (mixed first k r) R start (k + j) low high
       → (low + meeting seg (λ a. 1) (length block) j * 4294967295 < 2 ^ 64) × (high + meeting seg (λ a. 1) (length block) j * 4294967295 < 2 ^ 64)
-  level_fits low high j few held =
+  level_fits start low high j few held =
       let sq : ℕ = square (numbered masses) (λ a. 1) size (k - size) k (k + j) in
       let weight = meets-next (numbered masses) (λ a. 1) R first k r size blocks (k + j) st below in
       let all = weight-le masses (mixed first k (suc r)) R (k + j) in
@@ -140,18 +141,18 @@ stretch_fits masses size at n row few room fits k inside =
     omega (arith, sub_at at n k row inside', fits k (omega arith) (omega arith))
 
 -- what is added to the stretches of two rows has landed on the rows
-pub landed_is : (masses values low high ys zs : List ℕ) (at end : ℕ) → end ≡ min (length low) (at + 2 * length values) → at ≤ length low → length high ≡ length low
+pub landed_is : (masses values low high ys zs : List ℕ) (at start end : ℕ) → end ≡ min (length low) (at + 2 * length values) → at ≤ length low → length high ≡ length low
     → length ys ≡ length (take (end - at) (drop at low)) → length zs ≡ length (take (end - at) (drop at high))
     → Added masses values (take (end - at) (drop at low)) (take (end - at) (drop at high)) ys zs
-    → Landed masses values at low high (take at low ++ (ys ++ drop (end - at) (drop at low))) (take at high ++ (zs ++ drop (end - at) (drop at high)))
-landed_is masses values low high ys zs at end is from same long long' added =
+    → Landed masses values at start low high (take at low ++ (ys ++ drop (end - at) (drop at low))) (take at high ++ (zs ++ drop (end - at) (drop at high)))
+landed_is masses values low high ys zs at start end is from same long long' added =
     let n : ℕ = end - at in
     let room : at + n ≤ length low = omega arith in
     let room' : at + n ≤ length high = omega arith in
     let low_long : length (take n (drop at low)) ≡ n = omega (arith, length-take n (drop at low), length-drop at low) in
     let high_long : length (take n (drop at high)) ≡ n = omega (arith, length-take n (drop at high), length-drop at high) in
     record {
-      sums = λ k below inside.
+      sums = λ k below inside wanted.
           omega (arith, stretch_new at n low ys room long k (omega arith), stretch_new at n high zs room' long' k (omega arith), sub_at at n k low (omega arith), sub_at at n k high (omega arith), added.sums k (omega arith));
       low_small = λ k below inside. omega (arith, stretch_new at n low ys room long k (omega arith), sub_at at n k low (omega arith), added.low_small k (omega arith));
       high_small = λ k below inside. omega (arith, stretch_new at n high zs room' long' k (omega arith), sub_at at n k high (omega arith), added.high_small k (omega arith));

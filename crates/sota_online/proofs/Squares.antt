@@ -337,37 +337,37 @@ meets-next m g R first k r size blocks p st below =
     ∙ ap (λ (x : ℕ). levels m g (mixed first k r) R p + square m g size (k - size) x p) b
 
 -- a level's square, added to two numbers that hold the products so far
-pub Holds-next : (m f : ℕ → ℕ) (R first k r size blocks p low high low' high' : ℕ) → Stands first k r size blocks → r < R
-    → low' + 4294967296 * high' ≡ low + 4294967296 * high + square m f size (k - size) k p
+pub Holds-next : (m f : ℕ → ℕ) (R first k r size blocks start p low high low' high' : ℕ) → Stands first k r size blocks → r < R
+    → (start ≤ p → low' + 4294967296 * high' ≡ low + 4294967296 * high + square m f size (k - size) k p)
     → low' ≤ low + square m (λ a. 1) size (k - size) k p * 4294967295
     → high' ≤ high + square m (λ a. 1) size (k - size) k p * 4294967295
-    → HoldsProducts m f (mixed first k r) R p low high → HoldsProducts m f (mixed first k (suc r)) R p low' high'
-Holds-next m f R first k r size blocks p low high low' high' st below sums lows highs held =
+    → HoldsProducts m f (mixed first k r) R start p low high → HoldsProducts m f (mixed first k (suc r)) R start p low' high'
+Holds-next m f R first k r size blocks start p low high low' high' st below sums lows highs held =
     let x = held.sum in
     let y = held.low_le in
     let z = held.high_le in
     record {
-      sum = omega (arith, meets-next m f R first k r size blocks p st below);
+      sum = λ from. omega (arith, x from, sums from, meets-next m f R first k r size blocks p st below);
       low_le = omega (arith, meets-next m (λ a. 1) R first k r size blocks p st below);
       high_le = omega (arith, meets-next m (λ a. 1) R first k r size blocks p st below);
     }
 
 -- levels that meet as much
-pub Holds-same : (m f reach reach' : ℕ → ℕ) (R p low high : ℕ) → ((g : ℕ → ℕ) → levels m g reach R p ≡ levels m g reach' R p) → HoldsProducts m f reach R p low high → HoldsProducts m f reach' R p low high
-Holds-same m f reach reach' R p low high same held =
+pub Holds-same : (m f reach reach' : ℕ → ℕ) (R start p low high : ℕ) → ((g : ℕ → ℕ) → levels m g reach R p ≡ levels m g reach' R p) → HoldsProducts m f reach R start p low high → HoldsProducts m f reach' R start p low high
+Holds-same m f reach reach' R start p low high same held =
     let x = held.sum in
     let y = held.low_le in
     let z = held.high_le in
-    record { sum = omega (arith, same f); low_le = omega (arith, same (λ a. 1)); high_le = omega (arith, same (λ a. 1)) }
+    record { sum = λ from. omega (arith, x from, same f); low_le = omega (arith, same (λ a. 1)); high_le = omega (arith, same (λ a. 1)) }
 
-pub Holds-reach : (m f reach reach' : ℕ → ℕ) (R p low high : ℕ) → ((q : ℕ) → q < R → reach q ≡ reach' q) → HoldsProducts m f reach R p low high → HoldsProducts m f reach' R p low high
-Holds-reach m f reach reach' R p low high same held =
-    Holds-same m f reach reach' R p low high (λ g. levels-agree m g reach reach' R p (λ q below. ap (λ (n : ℕ). square m g (2 ^ q) 0 n p) (same q below))) held
+pub Holds-reach : (m f reach reach' : ℕ → ℕ) (R start p low high : ℕ) → ((q : ℕ) → q < R → reach q ≡ reach' q) → HoldsProducts m f reach R start p low high → HoldsProducts m f reach' R start p low high
+Holds-reach m f reach reach' R start p low high same held =
+    Holds-same m f reach reach' R start p low high (λ g. levels-agree m g reach reach' R p (λ q below. ap (λ (n : ℕ). square m g (2 ^ q) 0 n p) (same q below))) held
 
 -- the levels from r on have no masses
-pub Holds-no_masses : (m f : ℕ → ℕ) (R first k r p low high : ℕ) → ((b : ℕ) → 2 ^ r ≤ b → m b ≡ 0) → HoldsProducts m f (mixed first k r) R p low high → HoldsProducts m f (reached first k) R p low high
-Holds-no_masses m f R first k r p low high none held =
-    Holds-same m f (mixed first k r) (reached first k) R p low high (λ g. levels-agree m g (mixed first k r) (reached first k) R p (λ q below.
+pub Holds-no_masses : (m f : ℕ → ℕ) (R first k r start p low high : ℕ) → ((b : ℕ) → 2 ^ r ≤ b → m b ≡ 0) → HoldsProducts m f (mixed first k r) R start p low high → HoldsProducts m f (reached first k) R start p low high
+Holds-no_masses m f R first k r start p low high none held =
+    Holds-same m f (mixed first k r) (reached first k) R start p low high (λ g. levels-agree m g (mixed first k r) (reached first k) R p (λ q below.
     ⊎_elim (λ (before : q < r). ap (λ (n : ℕ). square m g (2 ^ q) 0 n p) (mixed-done first k r q before))
     (λ (from : r ≤ q).
     let far : (b : ℕ) → 2 ^ q ≤ b → m b ≡ 0 = λ b low. none b (omega (arith, pow-le-pow_right {n = 2} (omega arith) {i = r} {j = q} from)) in
@@ -375,12 +375,12 @@ Holds-no_masses m f R first k r p low high none held =
     (cases_lt q r))) held
 
 -- the values may change where no level has met them
-pub Holds-values : (m f g reach : ℕ → ℕ) (R n p low high : ℕ) → ((a : ℕ) → a < n → f a ≡ g a) → ((r : ℕ) → reach r ≤ n) → HoldsProducts m f reach R p low high → HoldsProducts m g reach R p low high
-Holds-values m f g reach R n p low high same within held =
+pub Holds-values : (m f g reach : ℕ → ℕ) (R n start p low high : ℕ) → ((a : ℕ) → a < n → f a ≡ g a) → ((r : ℕ) → reach r ≤ n) → HoldsProducts m f reach R start p low high → HoldsProducts m g reach R start p low high
+Holds-values m f g reach R n start p low high same within held =
     let x = held.sum in
     let y = held.low_le in
     let z = held.high_le in
-    record { sum = omega (arith, levels-same m f g reach R n p same within); low_le = omega arith; high_le = omega arith }
+    record { sum = λ from. omega (arith, x from, levels-same m f g reach R n p same within); low_le = omega arith; high_le = omega arith }
 
 -- neither number is large
 pub weight-le : (kernel : List ℕ) (reach : ℕ → ℕ) (R p : ℕ) → levels (numbered kernel) (λ a. 1) reach R p ≤ sum kernel

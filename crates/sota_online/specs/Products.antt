@@ -41,17 +41,18 @@ abbrev pub Fits : List ℕ → ℕ → ℕ → List ℕ → Type 0
 Fits masses size at row = (k : ℕ) → k < 2 * size → at + k < length row
     → slice_index row (at + k) + most masses size k < 2 ^ 64
 
--- what adding the products from a place on does to the rows
-pub record Landed (masses values : List ℕ) (at : ℕ) (low high low' high' : List ℕ) : Type 0 where
-  pub sums : (k : ℕ) → k < 2 * length values → at + k < length low
-      → slice_index low' (at + k) + 4294967296 * slice_index high' (at + k)
-      ≡ slice_index low (at + k) + 4294967296 * slice_index high (at + k)
-      + meeting masses (λ a. slice_index values a) (length values) k
-  pub low_small : (k : ℕ) → k < 2 * length values → at + k < length low
-      → slice_index low' (at + k) ≤ slice_index low (at + k) + most masses (length values) k
-  pub high_small : (k : ℕ) → k < 2 * length values → at + k < length high
-      → slice_index high' (at + k) ≤ slice_index high (at + k) + most masses (length values) k
-  pub low_before : (k : ℕ) → k < at → slice_index low' k ≡ slice_index low k
-  pub high_before : (k : ℕ) → k < at → slice_index high' k ≡ slice_index high k
-  pub low_after : (k : ℕ) → at + 2 * length values ≤ k → slice_index low' k ≡ slice_index low k
-  pub high_after : (k : ℕ) → at + 2 * length values ≤ k → slice_index high' k ≡ slice_index high k
+-- what adding the products from a place on does to the rows, where no sum before a start is wanted
+pub record Landed (masses values : List ℕ) (at start : ℕ) (low high low' high' : List ℕ) : Type 0
+  where
+    pub sums : (k : ℕ) → k < 2 * length values → at + k < length low → start ≤ at + k
+        → slice_index low' (at + k) + 4294967296 * slice_index high' (at + k)
+        ≡ slice_index low (at + k) + 4294967296 * slice_index high (at + k)
+        + meeting masses (λ a. slice_index values a) (length values) k
+    pub low_small : (k : ℕ) → k < 2 * length values → at + k < length low
+        → slice_index low' (at + k) ≤ slice_index low (at + k) + most masses (length values) k
+    pub high_small : (k : ℕ) → k < 2 * length values → at + k < length high
+        → slice_index high' (at + k) ≤ slice_index high (at + k) + most masses (length values) k
+    pub low_before : (k : ℕ) → k < at → slice_index low' k ≡ slice_index low k
+    pub high_before : (k : ℕ) → k < at → slice_index high' k ≡ slice_index high k
+    pub low_after : (k : ℕ) → at + 2 * length values ≤ k → slice_index low' k ≡ slice_index low k
+    pub high_after : (k : ℕ) → at + 2 * length values ≤ k → slice_index high' k ≡ slice_index high k

@@ -40,17 +40,20 @@ abbrev pub numbered : List ℕ → ℕ → ℕ
 numbered kernel b = slice_index kernel (b - 1)
 
 -- Two numbers that hold the products at a position: of the lower and of the upper halves of the
--- values. Neither is large, since each mass meets at most one value there
-pub record HoldsProducts (masses values reach : ℕ → ℕ) (count position low high : ℕ) : Type 0 where
-  pub sum : low + 4294967296 * high ≡ levels masses values reach count position
-  pub low_le : low ≤ levels masses (λ a. 1) reach count position * 4294967295
-  pub high_le : high ≤ levels masses (λ a. 1) reach count position * 4294967295
+-- values. Neither is large, since each mass meets at most one value there. Before a start they may
+-- hold less
+pub record HoldsProducts (masses values reach : ℕ → ℕ) (count start position low high : ℕ) : Type 0
+  where
+    pub sum : start ≤ position → low + 4294967296 * high ≡ levels masses values reach count position
+    pub low_le : low ≤ levels masses (λ a. 1) reach count position * 4294967295
+    pub high_le : high ≤ levels masses (λ a. 1) reach count position * 4294967295
 
 -- What a summer by squares keeps: the kernel, the least level and size of its squares, values of
--- which the first `fed` were fed, and at each position two numbers that hold the products of all
--- whole blocks of these levels. Where the kernel is too short for a square it needs no rows
-pub record IsWorkedOff (masses skips : List ℕ) (first smallest : ℕ) (values : List ℕ) (fed : ℕ)
-    (low high thin wide : List ℕ) : Type 0 where
+-- which the first `fed` were fed, and at each position from the start on two numbers that hold the
+-- products of all whole blocks of these levels. Where the kernel is too short for a square it needs
+-- no rows
+pub record IsWorkedOff (masses skips : List ℕ) (first smallest : ℕ) (values : List ℕ)
+    (fed start : ℕ) (low high : List ℕ) : Type 0 where
   pub skips_are : IsSkips masses skips 0
   pub size_is : smallest ≡ 2 ^ first
   pub first_ge : 3 ≤ first
@@ -62,12 +65,10 @@ pub record IsWorkedOff (masses skips : List ℕ) (first smallest : ℕ) (values 
   pub low_eights : length low % 8 ≡ 0
   pub low_room : smallest ≤ length masses → length values < length low
   pub high_room : length high ≡ length low
-  pub thin_room : smallest ≤ length masses → 2 * length masses + 16 ≤ length thin
-  pub wide_room : smallest ≤ length masses → 6 * length masses ≤ length wide
   pub small : (a : ℕ) → slice_index values a ≤ ONE
   pub held : (p : ℕ) → p < length low
       → HoldsProducts (numbered masses) (λ a. slice_index (take fed values) a)
-      (λ r. reached first fed r) LEVELS p (slice_index low p) (slice_index high p)
+      (λ r. reached first fed r) LEVELS start p (slice_index low p) (slice_index high p)
 
 -- how many products a square of the blocks that the k-th value ends may take, at level r, of a
 -- kernel with so many places

@@ -4,11 +4,13 @@ use Rattle.std.specs.List.{range_with_len}
 use Rattle.sota_hist.specs.Time.{least_tick, greatest_tick, mass_at}
 use Rattle.sota_block.specs.Product.{sum_below}
 
--- the masses by ticks from the least on, the values fed so far, and how many more can be fed
+-- the masses by ticks from the least on, the values fed so far, how many more can be fed, and the
+-- first position at which a sum may be read
 pub record SummerState : Type 0 where
   pub kernel : List ℕ
   pub values : List ℕ
   pub room : ℕ
+  pub start : ℕ
 
 -- how many ticks there are from the least to the greatest
 abbrev pub span : List (ℕ × ℕ) → ℕ
@@ -33,4 +35,5 @@ fed_more value state = record {
   kernel = state.kernel;
   values = state.values ++ value ∷ [];
   room = state.room - 1;
+  start = state.start;
 }

@@ -6,12 +6,12 @@ ghost use Rattle.sota_hist.specs.Time.{is_closed};
 ghost use Rattle.sota_online.specs.Summer.{kernel_of, plain, fed_more};
 ghost use Rattle.sota_online.specs.Squares.{square_counts};
 
-use crate::Summer;
 use crate::halves::{add_halves, joined};
 use crate::kernel::{kernel_masses, skips_of};
 use crate::levels::work_off;
 use crate::square::some_masses;
 use crate::sums::{plain_sum, plain_sums};
+use crate::{Summer, Workspace};
 use sota_hist::Histogram;
 use sota_units::{Grain, Heft, NoMemory, Steps};
 use std::alloc::Global;
@@ -24,7 +24,7 @@ use std::sync::ledger::Ledger;
 /// after the block, so what squares make of a sum is there when it is asked for. The smallest
 /// squares would cost more than they save: `sum` and `sums` add the products of the first 31 masses
 /// themselves, or of the first 127 where many of these are not 0. A short kernel has no squares.
-/// No counter counts what is added so.
+/// No counter counts what is added so. Squares that land wholly before the start are left out.
 #[derive(Drop)]
 pub struct BlockSummer {
     masses: Vec<u32>,
@@ -35,13 +35,10 @@ pub struct BlockSummer {
     smallest: usize,
     values: Vec<u64>,
     fed: usize,
+    start: usize,
     // The sums by positions, of the lower and of the upper halves of values.
     low: Vec<u64>,
     high: Vec<u64>,
-    // What a square is worked off with: a block of values between zeros, or what a folded product
-    // wants.
-    thin: Vec<u64>,
-    wide: Vec<u128>,
 }
 
 impl Model for BlockSummer {
@@ -55,25 +52,24 @@ impl Model for BlockSummer {
       kernel = s.masses.items;
       values = take s.fed s.values.items;
       room = length s.values.items - s.fed;
+      start = s.start;
     } };
 
     ghost invariant = { λ s. IsWorkedOff s.masses.items s.skips.items s.first s.smallest
-        s.values.items s.fed s.low.items s.high.items s.thin.items s.wide.items };
+        s.values.items s.fed s.start s.low.items s.high.items };
 }
 
 impl Summer for BlockSummer {
     ghost state = { λ s. s };
 
-    fn make(alloc: Global, time: &Histogram, length: u32) -> Result<Self, NoMemory> {
+    fn make(alloc: Global, time: &Histogram, length: u32, start: u32) -> Result<Self, NoMemory> {
         let masses = kernel_masses(alloc, time, length)?;
         let skips = skips_of(alloc, &masses)?;
         let (first, smallest) = smallest_square(&masses);
         let values = vec![in alloc; 0; length as usize]?;
-        let rooms = rooms_of(masses.len(), smallest, length);
-        let low = vec![in alloc; 0; rooms.sums]?;
-        let high = vec![in alloc; 0; rooms.sums]?;
-        let thin = vec![in alloc; 0; rooms.thin]?;
-        let wide = vec![in alloc; 0; rooms.wide]?;
+        let places = places_of(masses.len(), smallest, length);
+        let low = vec![in alloc; 0; places]?;
+        let high = vec![in alloc; 0; places]?;
         Ok(BlockSummer {
             masses,
             skips,
@@ -81,10 +77,9 @@ impl Summer for BlockSummer {
             smallest,
             values,
             fed: 0,
+            start: start as usize,
             low,
             high,
-            thin,
-            wide,
         })
     }
 
@@ -96,9 +91,15 @@ impl Summer for BlockSummer {
         (self.values.len() - self.fed) as u32
     }
 
-    fn feed<M: Ledger>(&mut self, value: Grain, products: &mut Steps<M>)
-        requires { 1 ≤ self.old.room }
+    fn span(&self) -> u32 {
+        self.masses.len() as u32
+    }
+
+    fn feed<M: Ledger>(&mut self, value: Grain, workspace: &mut Workspace, products: &mut Steps<M>)
+        requires room { 1 ≤ self.old.room }
+        requires work { length self.old.kernel ≤ workspace.old }
         ensures state { self.new ≡ fed_more value self.old }
+        ensures work { workspace.new ≡ workspace.old }
 
         // Of each whole block that it ends, as many products as a folded product takes, and no
         // more.
@@ -114,10 +115,10 @@ impl Summer for BlockSummer {
                 self.first,
                 self.smallest,
                 &self.values[..self.fed],
+                self.start,
                 &mut self.low,
                 &mut self.high,
-                &mut self.thin,
-                &mut self.wide,
+                workspace,
                 products,
             );
         }
@@ -145,34 +146,16 @@ impl Summer for BlockSummer {
     }
 }
 
-// How many places the rows of a summer have.
-#[derive(Clone, Copy)]
-struct Rooms {
-    sums: usize,
-    thin: usize,
-    wide: usize,
-}
-
-// None where the kernel is too short for a square.
-fn rooms_of(span: usize, smallest: usize, length: u32) -> Rooms
-    requires { span ≤ length }
-    ensures sums { smallest ≤ span → length < result.sums }
-    ensures eights { result.sums % 8 ≡ 0 }
-    ensures thin { smallest ≤ span → 2 * span + 16 ≤ result.thin }
-    ensures wide { smallest ≤ span → 6 * span ≤ result.wide }
+// How many places each row of sums has: none where the kernel is too short for a square.
+fn places_of(span: usize, smallest: usize, length: u32) -> usize
+    requires { length ≤ 65536 }
+    ensures room { smallest ≤ span → length < result }
+    ensures eights { result % 8 ≡ 0 }
 {
     if span < smallest {
-        return Rooms {
-            sums: 0,
-            thin: 0,
-            wide: 0,
-        };
+        return 0;
     }
-    Rooms {
-        sums: (length as usize / 8 + 1) * 8,
-        thin: 2 * span + 16,
-        wide: 6 * span,
-    }
+    (length as usize / 8 + 1) * 8
 }
 
 // Whether so many values end a block, and the kernel is long enough for a square.

@@ -8,22 +8,24 @@ ghost use Rattle.sota_online.specs.Products.{Fits, Landed};
 ghost use Rattle.sota_online.specs.Squares.{HoldsProducts, LEVELS, numbered, reached};
 ghost use Rattle.sota_online.specs.Squares.{square_counts};
 
+use crate::Workspace;
 use crate::square::add_square;
 use sota_units::Steps;
 use std::sync::ledger::Ledger;
 
 /// Works off each square that the last of some whole blocks of the smallest size makes whole: at
-/// each size, a power of two, of which the number of values is a multiple.
+/// each size, a power of two, of which the number of values is a multiple. Those that land wholly
+/// before the start are left out.
 pub(crate) fn work_off<M: Ledger>(
     masses: &[u32],
     skips: &[u32],
     first: u32,
     smallest: usize,
     values: &[u64],
+    start: usize,
     low: &mut [u64],
     high: &mut [u64],
-    thin: &mut [u64],
-    wide: &mut [u128],
+    workspace: &mut Workspace,
     products: &mut Steps<M>,
 )
     requires skips { IsSkips masses.now skips.now 0 }
@@ -38,16 +40,16 @@ pub(crate) fn work_off<M: Ledger>(
     requires low_room { length values.now ≤ length low.old }
     requires high_room { length high.old ≡ length low.old }
     requires small { (a : ℕ) → slice_index values.now a ≤ ONE }
-    requires thin_room { 2 * length masses.now + 16 ≤ length thin.old }
-    requires wide_room { 6 * length masses.now ≤ length wide.old }
+    requires work { length masses.now ≤ workspace.old }
     requires held { (p : ℕ) → p < length low.old
         → HoldsProducts (numbered masses.now) (λ a. slice_index values.now a)
-        (λ r. reached first (length values.now - 1) r) LEVELS p
+        (λ r. reached first (length values.now - 1) r) LEVELS start p
         (slice_index low.old p) (slice_index high.old p) }
     ensures held { (p : ℕ) → p < length low.new
         → HoldsProducts (numbered masses.now) (λ a. slice_index values.now a)
-        (λ r. reached first (length values.now) r) LEVELS p
+        (λ r. reached first (length values.now) r) LEVELS start p
         (slice_index low.new p) (slice_index high.new p) }
+    ensures work { workspace.new ≡ workspace.old }
     ensures count { products.new
         ≤ products.old + square_counts (length masses.now) (length values.now) }
 {
@@ -65,10 +67,10 @@ pub(crate) fn work_off<M: Ledger>(
             size - 1,
             &values[known - size..],
             known,
+            start,
             low,
             high,
-            thin,
-            wide,
+            workspace,
             products,
         );
         if blocks % 2 != 0 {
@@ -79,7 +81,8 @@ pub(crate) fn work_off<M: Ledger>(
     }
 }
 
-// The products of masses and a block of values, from a place on.
+// The products of masses and a block of values, from a place on. They land before twice as many
+// places more as there are values, and are left out where that is not after the start.
 #[inline(always)]
 fn add_at<M: Ledger>(
     masses: &[u32],
@@ -87,10 +90,10 @@ fn add_at<M: Ledger>(
     shift: usize,
     values: &[u64],
     at: usize,
+    start: usize,
     low: &mut [u64],
     high: &mut [u64],
-    thin: &mut [u64],
-    wide: &mut [u128],
+    workspace: &mut Workspace,
     products: &mut Steps<M>,
 )
     requires block { IsBlockLength (length values.now) }
@@ -104,15 +107,20 @@ fn add_at<M: Ledger>(
     requires high_room { length high.old ≡ length low.old }
     requires few { sum masses.now ≤ SCALE_LIMIT }
     requires small { (a : ℕ) → slice_index values.now a ≤ ONE }
-    requires thin_room { 2 * length values.now + 16 ≤ length thin.old }
-    requires wide_room { 6 * length values.now ≤ length wide.old }
+    requires work { length values.now ≤ workspace.old }
     requires low_fits { Fits masses.now (length values.now) at low.old }
     requires high_fits { Fits masses.now (length values.now) at high.old }
-    ensures landed { Landed masses.now values.now at low.old high.old low.new high.new }
+    ensures landed { Landed masses.now values.now at start low.old high.old low.new
+        high.new }
+    ensures work { workspace.new ≡ workspace.old }
     ensures count { (r : ℕ) → length values.now ≡ 2 ^ r
         → products.new ≤ products.old + fold_count r }
 {
-    let end = low.len().min(at + 2 * values.len());
+    let reach = at + 2 * values.len();
+    if reach <= start {
+        return;
+    }
+    let end = low.len().min(reach);
     add_square(
         masses,
         skips,
@@ -120,8 +128,7 @@ fn add_at<M: Ledger>(
         values,
         &mut low[at..end],
         &mut high[at..end],
-        thin,
-        wide,
+        workspace,
         products,
     );
 }

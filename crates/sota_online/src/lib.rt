@@ -13,7 +13,9 @@ mod summer;
 mod sums;
 #[cfg(test)]
 mod tests;
+mod workspace;
 
 pub use block::BlockSummer;
 pub use plain::PlainSummer;
 pub use summer::Summer;
+pub use workspace::Workspace;

@@ -4,9 +4,9 @@ ghost use Rattle.sota_units.specs.Rounding.{HEFT_LIMIT};
 ghost use Rattle.sota_hist.specs.Time.{is_closed};
 ghost use Rattle.sota_online.specs.Summer.{kernel_of, plain, fed_more};
 
-use crate::Summer;
 use crate::kernel::kernel_masses;
 use crate::sums::{plain_sum, plain_sums};
+use crate::{Summer, Workspace};
 use sota_hist::Histogram;
 use sota_units::{Grain, Heft, NoMemory, Steps};
 use std::alloc::Global;
@@ -20,6 +20,7 @@ pub struct PlainSummer {
     kernel: Vec<u32>,
     values: Vec<u64>,
     fed: usize,
+    start: u32,
 }
 
 impl Model for PlainSummer {
@@ -33,22 +34,25 @@ impl Model for PlainSummer {
       kernel = s.kernel.items;
       values = take s.fed s.values.items;
       room = length s.values.items - s.fed;
+      start = s.start;
     } };
 
     ghost invariant = { λ s. (s.fed ≤ length s.values.items) × (length s.values.items ≤ 65536)
+        × (length s.kernel.items ≤ 65536)
         × (sum s.kernel.items ≤ SCALE_LIMIT) };
 }
 
 impl Summer for PlainSummer {
     ghost state = { λ s. s };
 
-    fn make(alloc: Global, time: &Histogram, length: u32) -> Result<Self, NoMemory> {
+    fn make(alloc: Global, time: &Histogram, length: u32, start: u32) -> Result<Self, NoMemory> {
         let kernel = kernel_masses(alloc, time, length)?;
         let values = vec![in alloc; 0; length as usize]?;
         Ok(PlainSummer {
             kernel,
             values,
             fed: 0,
+            start,
         })
     }
 
@@ -60,9 +64,14 @@ impl Summer for PlainSummer {
         (self.values.len() - self.fed) as u32
     }
 
-    fn feed<M: Ledger>(&mut self, value: Grain, products: &mut Steps<M>)
-        requires { 1 ≤ self.old.room }
+    fn span(&self) -> u32 {
+        self.kernel.len() as u32
+    }
+
+    fn feed<M: Ledger>(&mut self, value: Grain, _workspace: &mut Workspace, products: &mut Steps<M>)
+        requires room { 1 ≤ self.old.room }
         ensures state { self.new ≡ fed_more value self.old }
+        ensures work { _workspace.new ≡ _workspace.old }
         ensures count { products.new ≡ products.old }
     {
         self.values[self.fed] = value.get();

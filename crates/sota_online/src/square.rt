@@ -5,6 +5,7 @@ ghost use Rattle.sota_block.specs.Meeting.{IsSkips};
 ghost use Rattle.sota_block.specs.Product.{fold_count};
 ghost use Rattle.sota_online.specs.Products.{IsSquare, Added};
 
+use crate::Workspace;
 use crate::folded::add_folded;
 use sota_block::{add_block, fold_products};
 use sota_units::Steps;
@@ -21,17 +22,16 @@ pub(crate) fn add_square<M: Ledger>(
     values: &[u64],
     low: &mut [u64],
     high: &mut [u64],
-    thin: &mut [u64],
-    wide: &mut [u128],
+    workspace: &mut Workspace,
     products: &mut Steps<M>,
 )
     requires square { IsSquare masses.now values.now low.old high.old }
     requires skips { IsSkips masses.now skips.now shift }
     requires near { shift ≤ 65536 }
     requires eights { length low.old % 8 ≡ 0 }
-    requires thin_room { 2 * length values.now + 16 ≤ length thin.old }
-    requires wide_room { 6 * length values.now ≤ length wide.old }
+    requires work { length values.now ≤ workspace.old }
     ensures added { Added masses.now values.now low.old high.old low.new high.new }
+    ensures work { workspace.new ≡ workspace.old }
     ensures count { (r : ℕ) → length values.now ≡ 2 ^ r
         → products.new ≤ products.old + fold_count r }
 {
@@ -42,9 +42,18 @@ pub(crate) fn add_square<M: Ledger>(
     let taken = some * values.len();
     if taken <= fold_products(values.len()) {
         return add_plain(
-            masses, skips, shift, values, low, high, thin, taken, products,
+            masses,
+            skips,
+            shift,
+            values,
+            low,
+            high,
+            &mut workspace.thin,
+            taken,
+            products,
         );
     }
+    let (thin, wide) = (&mut workspace.thin, &mut workspace.wide);
     add_folded(masses, values, low, high, thin, wide, products);
 }
 

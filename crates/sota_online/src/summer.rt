@@ -4,6 +4,7 @@ ghost use Rattle.sota_units.specs.Rounding.{HEFT_LIMIT};
 ghost use Rattle.sota_hist.specs.Time.{is_closed};
 ghost use Rattle.sota_online.specs.Summer.{SummerState, kernel_of, plain, fed_more};
 
+use crate::Workspace;
 use sota_hist::Histogram;
 use sota_units::{Grain, Heft, NoMemory, Steps};
 use std::alloc::Global;
@@ -13,18 +14,20 @@ use std::sync::ledger::Ledger;
 /// are fed one after the other, and the sum at a position is known once all values below that
 /// position are.
 pub trait Summer: Sized + Drop {
-    /// Its kernel, the values fed so far, and how many more can be fed.
+    /// Its kernel, the values fed so far, how many more can be fed, and the first position at which
+    /// a sum may be read.
     ghost state: { Self → SummerState };
 
     /// A summer of an open histogram's masses, moved by its least tick, with no value yet and room
-    /// for `length` of them. All memory is taken here.
-    fn make(alloc: Global, time: &Histogram, length: u32) -> Result<Self, NoMemory>
+    /// for `length` of them. Sums are read from the position `start` on. All memory is taken here.
+    fn make(alloc: Global, time: &Histogram, length: u32, start: u32) -> Result<Self, NoMemory>
         requires open { is_closed time.now ≡ false }
         requires length { length ≤ 65536 }
         ensures { IfOk result (λ summer. state summer ≡ record {
           kernel = kernel_of length time.now;
           values = [];
           room = length;
+          start = start;
         }) };
 
     /// How many values were fed.
@@ -35,22 +38,31 @@ pub trait Summer: Sized + Drop {
     fn room(&self) -> u32
         ensures { result ≡ (state self.now).room };
 
-    /// One value more. It takes no memory. What it multiplies is counted in `products`.
-    fn feed<M: Ledger>(&mut self, value: Grain, products: &mut Steps<M>)
-        requires { 1 ≤ (state self.old).room }
-        ensures { state self.new ≡ fed_more value (state self.old) };
+    /// How many places its kernel has.
+    fn span(&self) -> u32
+        ensures { result ≡ length (state self.now).kernel };
+
+    /// One value more. It takes no memory, and works in the room that is lent. What it multiplies
+    /// is counted in `products`.
+    fn feed<M: Ledger>(&mut self, value: Grain, workspace: &mut Workspace, products: &mut Steps<M>)
+        requires room { 1 ≤ (state self.old).room }
+        requires work { length (state self.old).kernel ≤ workspace.old }
+        ensures state { state self.new ≡ fed_more value (state self.old) }
+        ensures work { workspace.new ≡ workspace.old };
 
     /// The sum at a position: of each mass times the value as many places below the position as the
-    /// mass has in the kernel, counted from 1. It takes no memory.
+    /// mass has in the kernel, counted from 1. It is not before the start. It takes no memory.
     fn sum(&self, position: u32) -> Heft
         requires positive { 1 ≤ position }
+        requires start { (state self.now).start ≤ position }
         requires known { position ≤ length (state self.now).values }
         ensures { result ≡ plain (state self.now).kernel (state self.now).values position };
 
-    /// The sums at as many positions in a row as `into` has places, from a position on. It takes no
-    /// memory.
+    /// The sums at as many positions in a row as `into` has places, from a position on that is not
+    /// before the start. It takes no memory.
     fn sums(&self, from: u32, into: &mut [u128])
         requires positive { 1 ≤ from }
+        requires start { (state self.now).start ≤ from }
         requires known { from + length into.old ≤ length (state self.now).values + 1 }
         ensures sums { (k : ℕ) → k < length into.old → slice_index into.new k
             ≡ plain (state self.now).kernel (state self.now).values (from + k) }

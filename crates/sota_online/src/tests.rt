@@ -2,7 +2,7 @@
 ghost use Rattle.std.specs.Prelude.{◌≡◌, ◌<◌, ◌≤◌, length, false};
 ghost use Rattle.sota_hist.specs.Time.{is_closed};
 
-use crate::{BlockSummer, PlainSummer, Summer};
+use crate::{BlockSummer, PlainSummer, Summer, Workspace};
 use sota_hist::Histogram;
 use sota_units::{Grain, Mass, NoMemory, Scale, Steps, Tick};
 use std::alloc::Global;
@@ -11,55 +11,67 @@ use std::process::Abort;
 use std::sync::ledger::{Blank, Ledger};
 use std::test::Fail;
 
-// The sums at each position as soon as it is known, and then all at once.
+// The sums at each position from a start on, as soon as it is known, and then all at once.
 fn sums_of<S: Summer, M: Ledger>(
     alloc: Global,
     time: &Histogram,
     values: &[Grain],
+    start: u32,
     products: &mut Steps<M>,
 ) -> Result<Vec<u128>, NoMemory>
     requires open { is_closed time.now ≡ false }
     requires length { length values.now ≤ 65536 }
+    requires start { 1 ≤ start }
 {
-    let mut summer = S::make(alloc, time, values.len() as u32)?;
+    let mut summer = S::make(alloc, time, values.len() as u32, start)?;
     let mut sums = vec![in alloc; 0u128; 0]?;
     for value in values {
-        if summer.room() == 0 {
+        let span = summer.span();
+        if summer.room() == 0 || span > 65536 {
             return Ok(sums);
         }
-        summer.feed(*value, products);
+        let mut workspace = Workspace::make(alloc, span)?;
+        summer.feed(*value, &mut workspace, products);
         let position = summer.fed();
-        if position > 0 {
+        if position >= start {
             sums.push(summer.sum(position).get())?;
         }
     }
-    let mut all = vec![in alloc; 0u128; summer.fed() as usize]?;
-    summer.sums(1, &mut all);
+    let known = summer.fed() as usize + 1;
+    let mut all = vec![in alloc; 0u128; known.saturating_sub(start as usize)]?;
+    if start as usize <= known {
+        summer.sums(start, &mut all);
+    }
     sums.extend_from_slice(&all)?;
     Ok(sums)
 }
 
-// The sums of both forms, which must be equal: one for each value, and each once more.
+// The sums of both forms, which must be equal: one for each value, and each once more. The sums by
+// squares are read from a start on.
 fn both<M: Ledger>(
     rt: &impl Abort,
     alloc: Global,
     time: &Histogram,
     values: &[Grain],
+    start: u32,
     products: &mut Steps<M>,
 ) -> Result<Vec<u128>, Fail> {
-    if time.is_closed() || values.len() > 65536 {
-        return Err(Fail::from("a closed histogram, or too many values"));
+    if start == 0 || time.is_closed() || values.len() > 65536 {
+        return Err(Fail::from("no start, a closed histogram, or too many values"));
     }
-    let block = sums_of::<BlockSummer, M>(alloc, time, values, products)
+    let block = sums_of::<BlockSummer, M>(alloc, time, values, start, products)
         .ok()
         .ok_or("sums by squares")?;
-    let plain = sums_of::<PlainSummer, M>(alloc, time, values, products)
+    let plain = sums_of::<PlainSummer, M>(alloc, time, values, 1, products)
         .ok()
         .ok_or("plain sums")?;
     let (first, second) = plain.split_at(plain.len() / 2);
     assert_eq!(rt; first.len(), values.len());
     assert_eq!(rt; first, second);
-    assert_eq!(rt; block.as_slice(), plain.as_slice());
+    let late = first.get(start as usize - 1..).unwrap_or(&[]);
+    let (each, all) = block.split_at(block.len() / 2);
+    assert_eq!(rt; each, late);
+    assert_eq!(rt; all, late);
     Ok(plain)
 }
 
@@ -83,7 +95,7 @@ fn third_arc<M: Ledger>(
     products: &mut Steps<M>,
 ) -> Result<(), Fail> {
     let time = time_of(alloc, &[(Tick(3), Mass(3)), (Tick(5), Mass(1))])?;
-    let sums = both(rt, alloc, &time, &[Grain::ONE; 3], products)?;
+    let sums = both(rt, alloc, &time, &[Grain::ONE; 3], 1, products)?;
     let one = 1_000_000_000_000_000_000u128;
     let wanted = [3 * one, 3 * one, 4 * one, 3 * one, 3 * one, 4 * one];
     assert_eq!(rt; sums.as_slice(), wanted.as_slice());
@@ -99,7 +111,7 @@ fn chain<M: Ledger>(rt: &impl Abort, alloc: Global, products: &mut Steps<M>) -> 
         let part = u128::from(tick.min(33)) * 1_000_000_000_000_000_000 / 33;
         values.push(Grain::new(part as u64).unwrap_or(Grain::ZERO))?;
     }
-    let sums = both(rt, alloc, &time, &values, products)?;
+    let sums = both(rt, alloc, &time, &values, 1, products)?;
     for (budget, chance) in [
         (33, 484_848_484_848_484_848),
         (50, 875_114_784_205_693_296),
@@ -123,16 +135,20 @@ fn spread(alloc: Global, span: u32, step: u32, spread: u32) -> Result<Vec<(Tick,
     Ok(pairs)
 }
 
-// Kernels with a mass at each so many ticks: their span, the step, and how many values are fed.
-const KERNELS: [(u32, u32, usize); 8] = [
-    (1, 1, 9),
-    (64, 10, 500),
-    (200, 7, 300),
-    (300, 1, 400),
-    (1000, 1, 2000),
-    (1000, 10, 2000),
-    (50, 1, 21),
-    (50, 1, 0),
+// Kernels with a mass at each so many ticks: their span, the step, how many values are fed, and
+// from which position on sums are read.
+const KERNELS: [(u32, u32, usize, u32); 11] = [
+    (1, 1, 9, 1),
+    (64, 10, 500, 1),
+    (200, 7, 300, 1),
+    (300, 1, 400, 1),
+    (1000, 1, 2000, 1),
+    (1000, 10, 2000, 1),
+    (1000, 1, 2000, 1281),
+    (1000, 10, 2000, 1500),
+    (300, 10, 400, 450),
+    (50, 1, 21, 1),
+    (50, 1, 0, 1),
 ];
 
 fn kernels<M: Ledger>(rt: &impl Abort, alloc: Global, products: &mut Steps<M>) -> Result<(), Fail> {
@@ -143,10 +159,10 @@ fn kernels<M: Ledger>(rt: &impl Abort, alloc: Global, products: &mut Steps<M>) -
         let value = Grain::new(seed % 1_000_000_000_000_000_001);
         values.push(value.unwrap_or(Grain::ZERO))?;
     }
-    for (span, step, length) in KERNELS {
+    for (span, step, length, start) in KERNELS {
         let time = time_of(alloc, &spread(alloc, span, step, 7919)?)?;
         let values = values.get(..length).ok_or("so many values")?;
-        both(rt, alloc, &time, values, products)?;
+        both(rt, alloc, &time, values, start, products)?;
     }
     Ok(())
 }

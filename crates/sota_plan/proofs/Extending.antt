@@ -7,7 +7,7 @@ use Rattle.std.proofs.lemmas.List.{get_or-set_same, get_or-set_other}
 use Rattle.sota_network.specs.Network.{Net, IsNode}
 use Rattle.sota_network.specs.Numbers.{listed}
 use Rattle.sota_network.specs.Region.{need}
-use Rattle.sota_kept.specs.Laws.{ListLaws}
+use Rattle.sota_network.specs.Laws.{ListLaws}
 use Rattle.sota_kept.specs.NodeTables.{NodeTable, IsNodeTable, AreReady, IsExtent, IsGrownAt, known_end}
 use Rattle.sota_kept.specs.TableLists.{AreTables, table_of}
 use Rattle.sota_kept.specs.Asks.{IsGrown, left_to_push}

@@ -12,7 +12,7 @@ use Rattle.sota_order.specs.Orders.{OrderView, need_at, order_end}
 use Rattle.sota_tables.specs.Views.{TablesView, table_at, room_of}
 use Rattle.sota_fill.specs.declared.broad.Summers.{Summers}
 use Rattle.sota_fill.specs.Fed.{SummersList, summers_at}
-use Rattle.sota_plan.specs.Runs.{is_broad, most_fed}
+use Rattle.sota_plan.specs.Runs.{is_broad, most_fed, first_position}
 use Rattle.sota_plan.specs.Summed.{SummedAs, values_below}
 
 -- an order and tables have the same of each node of the network, and there is room up to each need
@@ -34,12 +34,13 @@ fed_so_far net region before now arc =
     then values_below net region.dest arc (known_end (table_at now arc.tail))
     else 0
 
--- an arc has two summers that were fed so many values where it is broad, else none
+-- an arc has two summers that were fed so many values where it is broad, else none. Their sums are
+-- read from the first entry on that its tail lacked
 pub record ArcSummed {Z : Type 0} (state : Z → SummerState) (net : Net) (region : AskRegion)
     (before now : TablesView) (arc : Arc) (found : Option (Summers Z)) : Type 0 where
   pub broad : is_broad net region arc ≡ true
       → SummedAs state net region.dest arc (fed_so_far net region before now arc)
-      (most_fed net region arc) found
+      (most_fed net region arc) (first_position before region arc) found
   pub narrow : is_broad net region arc ≡ false → found ≡ None
 
 -- the same of all arcs

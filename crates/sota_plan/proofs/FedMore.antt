@@ -14,7 +14,7 @@ use Rattle.sota_kept.specs.Ticks.{least_to}
 use Rattle.sota_kept.specs.NodeTables.{NodeTable, IsReadyAt, lower_in, upper_in}
 use Rattle.sota_online.specs.Summer.{SummerState, kernel_of, fed_more}
 use Rattle.sota_fill.specs.declared.broad.Summers.{Summers}
-use Rattle.sota_fill.specs.Fed.{IsFed, SummersList, unboxed, summers_at}
+use Rattle.sota_fill.specs.Fed.{IsFed, IsSameSummer, SummersList, unboxed, summers_at}
 use Rattle.sota_fill.specs.Fills.{ReadsAs}
 use Rattle.sota_plan.specs.Summed.{IsSummed, values_below}
 
@@ -37,24 +37,34 @@ fed-next old new v time base f fed room at is =
     })
 
 -- ---- a summer was fed on, until so many values are fed: value `a` is the given one
-pub record FedTo (old now : SummerState) (count index : ℕ) (value : ℕ → ℕ) : Type 0 where
+pub record FedTo (old now : SummerState) (count index : ℕ) (value : ℕ → ℕ) (places work : ℕ) : Type 0 where
   pub fed : (time : List (ℕ × ℕ)) (base : ℕ) (f : ℕ → ℕ) → IsFed old time base f → ((a : ℕ) → a < count → value a ≡ f (base + a)) → IsFed now time base f
   pub count_is : length now.values ≡ index
   pub low : length old.values ≤ index
   pub high : index ≤ max (length old.values) count
-  pub total : length now.values + now.room ≡ length old.values + old.room
+  pub same : IsSameSummer old now
+  pub work_is : work ≡ places
 
-pub fed-to-more : (old now new : SummerState) (count index v : ℕ) (value : ℕ → ℕ) → FedTo old now count index value → index < count → count ≤ length old.values + old.room → v ≡ value index → new ≡ fed_more v now → FedTo old new count (index + 1) value
-fed-to-more old now new count index v value to less room is at =
+-- and its kernel fits still
+pub fed-to-fits : (old now : SummerState) (count index : ℕ) (value : ℕ → ℕ) (places work : ℕ) → FedTo old now count index value places work → length old.kernel ≤ places → length now.kernel ≤ work
+fed-to-fits old now count index value places work to fits = omega (arith, ap (λ (xs : List ℕ). length xs) to.same.kernel, to.work_is, fits)
+
+pub fed-to-more : (old now new : SummerState) (count index v : ℕ) (value : ℕ → ℕ) (places work work' : ℕ) → FedTo old now count index value places work → index < count → count ≤ length old.values + old.room → v ≡ value index → new ≡ fed_more v now → work' ≡ work → FedTo old new count (index + 1) value places work'
+fed-to-more old now new count index v value places work work' to less room is at lent =
     let more : length new.values ≡ length now.values + 1 = ap (λ (s : SummerState). length s.values) at ∙ length-append now.values (v ∷ []) in
     let left : new.room ≡ now.room - 1 = ap (λ (s : SummerState). s.room) at in
-    let some : 1 ≤ now.room = omega (arith, less, room, to.total, to.count_is) in
+    let some : 1 ≤ now.room = omega (arith, less, room, to.same.total, to.count_is) in
     record {
       fed = λ time base f start agree. fed-next now new v time base f (to.fed time base f start agree) some at (is ∙ agree index less ∙ ap (λ (n : ℕ). f (base + n)) (sym to.count_is));
       count_is = omega (arith, more, to.count_is);
       low = omega (arith, to.low);
       high = omega (arith, less);
-      total = omega (arith, more, left, some, to.total);
+      same = record {
+        kernel = ap (λ (s : SummerState). s.kernel) at ∙ to.same.kernel;
+        start = ap (λ (s : SummerState). s.start) at ∙ to.same.start;
+        total = omega (arith, more, left, some, to.same.total);
+      };
+      work_is = lent ∙ to.work_is;
     }
 
 -- ---- what a row has at a budget from a base on
@@ -99,16 +109,21 @@ pub summers-set : {Z : Type 0} (broad : SummersList Z) (e i n : ℕ) (two : Box 
 summers-set {Z} broad e i n two same number long =
     ap (λ (k : ℕ). summers_at (set broad (k - 1) (Some two)) e) same ∙ ap unboxed (get_or-set_same broad (e - 1) (Some two) None (omega (arith, number.0, number.1)))
 
+-- there is room to work for the kernel of a summer that was lent
+pub fits-lent : (lent s : SummerState) (total places : ℕ) (time : List (ℕ × ℕ)) (base : ℕ) (f : ℕ → ℕ) → lent ≡ s → IsFed s time base f → length s.values + s.room ≡ total → length (kernel_of total time) ≤ places → length lent.kernel ≤ places
+fits-lent lent s total places time base f at fed is fits =
+    let kernel : lent.kernel ≡ kernel_of total time = ap (λ (x : SummerState). x.kernel) at ∙ fed.kernel ∙ ap (λ (n : ℕ). kernel_of n time) is in
+    rw kernel fits
+
 -- what feeding both does
-pub summed-more : {Z : Type 0} (state : Z → SummerState) (net : Net) (dest : ℕ) (arc : Arc) (count total to base : ℕ) (two new : Summers Z) (tables : ℕ → NodeTable) → base ≡ least_to net dest arc.head
-    → IsSummed state net dest arc count total two → count ≤ values_below net dest arc to → ReadsAs net dest arc to tables
+pub summed-more : {Z : Type 0} (state : Z → SummerState) (net : Net) (dest : ℕ) (arc : Arc) (count total start to base : ℕ) (two new : Summers Z) (tables : ℕ → NodeTable) → base ≡ least_to net dest arc.head
+    → IsSummed state net dest arc count total start two → count ≤ values_below net dest arc to → ReadsAs net dest arc to tables
     → ((f : ℕ → ℕ) → IsFed (state two.lower) arc.time base f → ((u : ℕ) → base ≤ u → u + least_tick arc.time < to → lower_in dest tables arc.head u ≡ f u) → IsFed (state new.lower) arc.time base f)
     → ((f : ℕ → ℕ) → IsFed (state two.upper) arc.time base f → ((u : ℕ) → base ≤ u → u + least_tick arc.time < to → upper_in dest tables arc.head u ≡ f u) → IsFed (state new.upper) arc.time base f)
     → length (state new.lower).values ≡ max (length (state two.lower).values) (to - (least_tick arc.time + base)) → length (state new.upper).values ≡ max (length (state two.upper).values) (to - (least_tick arc.time + base))
-    → length (state new.lower).values + (state new.lower).room ≡ length (state two.lower).values + (state two.lower).room
-    → length (state new.upper).values + (state new.upper).room ≡ length (state two.upper).values + (state two.upper).room
-    → IsSummed state net dest arc (values_below net dest arc to) total new
-summed-more {Z} state net dest arc count total to base two new tables at is less reads lower upper lower-count upper-count lower-total upper-total =
+    → IsSameSummer (state two.lower) (state new.lower) → IsSameSummer (state two.upper) (state new.upper)
+    → IsSummed state net dest arc (values_below net dest arc to) total start new
+summed-more {Z} state net dest arc count total start to base two new tables at is less reads lower upper lower-count upper-count lower-same upper-same =
     let L : ℕ = least_to net dest arc.head in
     record {
       open_arc = is.open_arc;
@@ -118,6 +133,8 @@ summed-more {Z} state net dest arc count total to base two new tables at is less
           (upper (hi net dest arc.head) (subst (λ (b : ℕ). IsFed (state two.upper) arc.time b (hi net dest arc.head)) (sym at) is.upper) (λ u up early. reads.upper is.open_arc u early));
       lower_count = omega (arith, lower-count, is.lower_count, less, at);
       upper_count = omega (arith, upper-count, is.upper_count, less, at);
-      lower_total = omega (arith, lower-total, is.lower_total);
-      upper_total = omega (arith, upper-total, is.upper_total);
+      lower_total = omega (arith, lower-same.total, is.lower_total);
+      upper_total = omega (arith, upper-same.total, is.upper_total);
+      lower_start = lower-same.start ∙ is.lower_start;
+      upper_start = upper-same.start ∙ is.upper_start;
     }

@@ -11,7 +11,7 @@ use Rattle.sota_bounds.specs.Cells.{pairs_by_need}
 use Rattle.sota_bounds.specs.Faults.{TABLE_LIMIT}
 use Rattle.sota_bounds.specs.Regions.{IsRegion}
 use Rattle.sota_bounds.specs.declared.ask.AskRegion.{AskRegion}
-use Rattle.sota_kept.specs.Laws.{ListLaws}
+use Rattle.sota_network.specs.Laws.{ListLaws}
 use Rattle.sota_kept.specs.Ticks.{END_LIMIT, up_to, least_to}
 use Rattle.sota_kept.specs.NodeTables.{NodeTable, IsNodeTable, prepared_table}
 use Rattle.sota_kept.specs.States.{KEPT_LIMIT, is_dest, started_state, based_state, cells_kept}

@@ -7,7 +7,7 @@ use Rattle.sota_network.specs.Numbers.{listed}
 use Rattle.sota_network.specs.Region.{need}
 use Rattle.sota_network.specs.Walks.{IsLeastTime}
 use Rattle.sota_bounds.specs.Search.{time_at}
-use Rattle.sota_kept.specs.Laws.{ListLaws}
+use Rattle.sota_network.specs.Laws.{ListLaws}
 use Rattle.sota_kept.specs.Ticks.{END_LIMIT, up_to, ticks_to, least_to}
 use Rattle.sota_kept.specs.NodeTables.{NodeTable, emptied_table, rebased_table, prepared_table}
 use Rattle.sota_kept.specs.States.{KEPT_LIMIT, is_dest, started_state, based_state, cells_kept}

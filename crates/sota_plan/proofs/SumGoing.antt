@@ -24,10 +24,11 @@ use Rattle.sota_tables.specs.Views.{TablesView, table_at}
 use Rattle.sota_fill.specs.declared.broad.Summers.{Summers}
 use Rattle.sota_fill.specs.Fed.{IsFed, AllFed, SummersList, unboxed, summers_at}
 use Rattle.sota_fill.specs.Fills.{IsLonger}
-use Rattle.sota_plan.specs.Runs.{ArcSums, states_of, is_broad, most_fed, unfed, first_sums, values_fed, HasSpent}
+use Rattle.sota_plan.specs.Runs.{ArcSums, states_of, is_broad, most_fed, unfed, first_position, first_sums, values_fed, HasPlaces, HasSpent}
 use Rattle.sota_plan.specs.Summed.{IsSummed, SummedAs, CanFeed, AllCanFeed, values_below}
 use Rattle.sota_plan.proofs.Extends.{AllSummed, fed_so_far}
 use Rattle.sota_plan.specs.Laws.{TimeLaws}
+use Rattle.sota_plan.specs.Steps.{base_by}
 use Rattle.sota_plan.proofs.FedMore.{get_or-default}
 
 -- an arc that has a number has one from 1 on
@@ -54,77 +55,79 @@ module _ {Z : Type 0} (state : Z → SummerState) (net : Net) (dest node to : �
   -- those of the first k of these numbers are fed, and each other is as before or fed
   pub record FedSome (k : ℕ) (old now : SummersList Z) : Type 0 where
     pub same : length now ≡ length old
-    pub each : (e : ℕ) (arc : Arc) (count total : ℕ) → arc_at net e ≡ Some arc → arc.tail ≡ node → SummedAs state net dest arc count total (summers_at old e) → count ≤ values_below net dest arc to
-        → SummedAs state net dest arc count total (summers_at now e) ⊎ SummedAs state net dest arc (values_below net dest arc to) total (summers_at now e)
-    pub done : (j e : ℕ) (arc : Arc) (count total : ℕ) → j < k → e ≡ get_or es j e → arc_at net e ≡ Some arc → arc.tail ≡ node → SummedAs state net dest arc count total (summers_at old e) → count ≤ values_below net dest arc to
-        → SummedAs state net dest arc (values_below net dest arc to) total (summers_at now e)
+    pub each : (e : ℕ) (arc : Arc) (count total start : ℕ) → arc_at net e ≡ Some arc → arc.tail ≡ node → SummedAs state net dest arc count total start (summers_at old e) → count ≤ values_below net dest arc to
+        → SummedAs state net dest arc count total start (summers_at now e) ⊎ SummedAs state net dest arc (values_below net dest arc to) total start (summers_at now e)
+    pub done : (j e : ℕ) (arc : Arc) (count total start : ℕ) → j < k → e ≡ get_or es j e → arc_at net e ≡ Some arc → arc.tail ≡ node → SummedAs state net dest arc count total start (summers_at old e) → count ≤ values_below net dest arc to
+        → SummedAs state net dest arc (values_below net dest arc to) total start (summers_at now e)
     pub others : (e : ℕ) (arc : Arc) → arc_at net e ≡ Some arc → arc.tail ≢ node → summers_at now e ≡ summers_at old e
     pub none : (e : ℕ) → 1 ≤ e → summers_at old e ≡ None → summers_at now e ≡ None
 
   pub fed-first : (old : SummersList Z) → FedSome 0 old old
   fed-first old = record {
     same = refl;
-    each = λ e arc count total at tail summed less. inl summed;
-    done = λ j e arc count total early is at tail summed less. absurd (omega arith);
+    each = λ e arc count total start at tail summed less. inl summed;
+    done = λ j e arc count total start early is at tail summed less. absurd (omega arith);
     others = λ e arc at off. refl;
     none = λ e low is. is;
   }
 
   -- what is there can be fed
-  can-found : (k : ℕ) (old now : SummersList Z) → FedSome k old now → AllCanFeed state net dest node to old → (e : ℕ) (arc : Arc) (two : Summers Z) → arc_at net e ≡ Some arc → arc.tail ≡ node → summers_at now e ≡ Some two
-      → (first : Option (Summers Z)) → summers_at old e ≡ first → CanFeed state net dest arc to two
-  can-found k old now fed all e arc two at tail is None before =
+  can-found : (places k : ℕ) (old now : SummersList Z) → FedSome k old now → AllCanFeed state net dest node to places old → (e : ℕ) (arc : Arc) (two : Summers Z) → arc_at net e ≡ Some arc → arc.tail ≡ node → summers_at now e ≡ Some two
+      → (first : Option (Summers Z)) → summers_at old e ≡ first → CanFeed state net dest arc to places two
+  can-found places k old now fed all e arc two at tail is None before =
       let none : None ≡ Some two = sym (fed.none e (number-low net e arc at) before) ∙ is in
       absurd (none-some two none)
-  can-found k old now fed all e arc two at tail is (Some one) before =
-      let can : CanFeed state net dest arc to one = all e arc one at tail before in
+  can-found places k old now fed all e arc two at tail is (Some one) before =
+      let can : CanFeed state net dest arc to places one = all e arc one at tail before in
       ⊎_elim
-      (λ (kept : SummedAs state net dest arc can.count can.total (summers_at now e)).
+      (λ (kept : SummedAs state net dest arc can.count can.total can.start (summers_at now e)).
       let same : kept.two ≡ two = (let both : Some kept.two ≡ Some two = sym kept.are ∙ is in cc) in
-      record { count = can.count; total = can.total; is = subst (λ (s : Summers Z). IsSummed state net dest arc can.count can.total s) same kept.is; less = can.less; room = can.room })
-      (λ (more : SummedAs state net dest arc (values_below net dest arc to) can.total (summers_at now e)).
+      record { count = can.count; total = can.total; start = can.start; is = subst (λ (s : Summers Z). IsSummed state net dest arc can.count can.total can.start s) same kept.is; less = can.less; room = can.room; work = can.work })
+      (λ (more : SummedAs state net dest arc (values_below net dest arc to) can.total can.start (summers_at now e)).
       let same : more.two ≡ two = (let both : Some more.two ≡ Some two = sym more.are ∙ is in cc) in
       record {
         count = values_below net dest arc to;
         total = can.total;
-        is = subst (λ (s : Summers Z). IsSummed state net dest arc (values_below net dest arc to) can.total s) same more.is;
+        start = can.start;
+        is = subst (λ (s : Summers Z). IsSummed state net dest arc (values_below net dest arc to) can.total can.start s) same more.is;
         less = omega arith;
         room = can.room;
+        work = can.work;
       })
-      (fed.each e arc can.count can.total at tail (record { two = one; are = before; is = can.is }) can.less)
+      (fed.each e arc can.count can.total can.start at tail (record { two = one; are = before; is = can.is }) can.less)
 
-  pub fed-can : (k : ℕ) (old now : SummersList Z) → FedSome k old now → AllCanFeed state net dest node to old → (e : ℕ) (arc : Arc) (two : Summers Z) → arc_at net e ≡ Some arc → arc.tail ≡ node → summers_at now e ≡ Some two
-      → CanFeed state net dest arc to two
-  fed-can k old now fed all e arc two at tail is = can-found k old now fed all e arc two at tail is (summers_at old e) refl
+  pub fed-can : (places k : ℕ) (old now : SummersList Z) → FedSome k old now → AllCanFeed state net dest node to places old → (e : ℕ) (arc : Arc) (two : Summers Z) → arc_at net e ≡ Some arc → arc.tail ≡ node → summers_at now e ≡ Some two
+      → CanFeed state net dest arc to places two
+  fed-can places k old now fed all e arc two at tail is = can-found places k old now fed all e arc two at tail is (summers_at old e) refl
 
   -- one arc more
   pub fed-some-more : (k : ℕ) (old now new : SummersList Z) (number : ℕ) → ((arc : Arc) → arc_at net number ≡ Some arc → arc.tail ≡ node) → k < length es → number ≡ get_or es k number → FedSome k old now
-      → ((arc : Arc) (count total : ℕ) → arc_at net number ≡ Some arc → SummedAs state net dest arc count total (summers_at now number) → count ≤ values_below net dest arc to
-      → SummedAs state net dest arc (values_below net dest arc to) total (summers_at new number))
+      → ((arc : Arc) (count total start : ℕ) → arc_at net number ≡ Some arc → SummedAs state net dest arc count total start (summers_at now number) → count ≤ values_below net dest arc to
+      → SummedAs state net dest arc (values_below net dest arc to) total start (summers_at new number))
       → (summers_at now number ≡ None → summers_at new number ≡ None) → ((e : ℕ) → 1 ≤ e → e ≢ number → summers_at new e ≡ summers_at now e) → length new ≡ length now → FedSome (k + 1) old new
   fed-some-more k old now new number tails inside read fed fed-here none-here others long =
-      let here : (e : ℕ) (arc : Arc) (count total : ℕ) → e ≡ number → arc_at net e ≡ Some arc → arc.tail ≡ node → SummedAs state net dest arc count total (summers_at old e) → count ≤ values_below net dest arc to
-      → SummedAs state net dest arc (values_below net dest arc to) total (summers_at new e) =
-      λ e arc count total same at tail summed less.
+      let here : (e : ℕ) (arc : Arc) (count total start : ℕ) → e ≡ number → arc_at net e ≡ Some arc → arc.tail ≡ node → SummedAs state net dest arc count total start (summers_at old e) → count ≤ values_below net dest arc to
+      → SummedAs state net dest arc (values_below net dest arc to) total start (summers_at new e) =
+      λ e arc count total start same at tail summed less.
       let at' : arc_at net number ≡ Some arc = subst (λ (n : ℕ). arc_at net n ≡ Some arc) same at in
-      subst (λ (n : ℕ). SummedAs state net dest arc (values_below net dest arc to) total (summers_at new n)) (sym same)
+      subst (λ (n : ℕ). SummedAs state net dest arc (values_below net dest arc to) total start (summers_at new n)) (sym same)
       (⊎_elim
-      (λ (kept : SummedAs state net dest arc count total (summers_at now e)). fed-here arc count total at' (subst (λ (n : ℕ). SummedAs state net dest arc count total (summers_at now n)) same kept) less)
-      (λ (more : SummedAs state net dest arc (values_below net dest arc to) total (summers_at now e)).
-      fed-here arc (values_below net dest arc to) total at' (subst (λ (n : ℕ). SummedAs state net dest arc (values_below net dest arc to) total (summers_at now n)) same more) (omega arith))
-      (fed.each e arc count total at tail summed less)) in
+      (λ (kept : SummedAs state net dest arc count total start (summers_at now e)). fed-here arc count total start at' (subst (λ (n : ℕ). SummedAs state net dest arc count total start (summers_at now n)) same kept) less)
+      (λ (more : SummedAs state net dest arc (values_below net dest arc to) total start (summers_at now e)).
+      fed-here arc (values_below net dest arc to) total start at' (subst (λ (n : ℕ). SummedAs state net dest arc (values_below net dest arc to) total start (summers_at now n)) same more) (omega arith))
+      (fed.each e arc count total start at tail summed less)) in
       record {
         same = long ∙ fed.same;
-        each = λ e arc count total at tail summed less.
+        each = λ e arc count total start at tail summed less.
             ⊎_elim
-            (λ (same : e ≡ number). inr (here e arc count total same at tail summed less))
+            (λ (same : e ≡ number). inr (here e arc count total start same at tail summed less))
             (λ (off : e ≡ number → ⊥).
-            subst (λ (o : Option (Summers Z)). SummedAs state net dest arc count total o ⊎ SummedAs state net dest arc (values_below net dest arc to) total o) (sym (others e (number-low net e arc at) off))
-            (fed.each e arc count total at tail summed less))
+            subst (λ (o : Option (Summers Z)). SummedAs state net dest arc count total start o ⊎ SummedAs state net dest arc (values_below net dest arc to) total start o) (sym (others e (number-low net e arc at) off))
+            (fed.each e arc count total start at tail summed less))
             (cases_eq e number);
-        done = λ j e arc count total early is at tail summed less.
+        done = λ j e arc count total start early is at tail summed less.
             ⊎_elim
-            (λ (same : e ≡ number). here e arc count total same at tail summed less)
+            (λ (same : e ≡ number). here e arc count total start same at tail summed less)
             (λ (off : e ≡ number → ⊥).
             let before : j < k =
             ⊎_elim (λ (less' : j < k). less')
@@ -133,8 +136,8 @@ module _ {Z : Type 0} (state : Z → SummerState) (net : Net) (dest node to : �
             let found : e ≡ number = is ∙ ap (λ (n : ℕ). get_or es n e) last ∙ get_or-default es k e number inside ∙ sym read in
             absurd (off found))
             (cases_lt j k) in
-            subst (λ (o : Option (Summers Z)). SummedAs state net dest arc (values_below net dest arc to) total o) (sym (others e (number-low net e arc at) off))
-            (fed.done j e arc count total before is at tail summed less))
+            subst (λ (o : Option (Summers Z)). SummedAs state net dest arc (values_below net dest arc to) total start o) (sym (others e (number-low net e arc at) off))
+            (fed.done j e arc count total start before is at tail summed less))
             (cases_eq e number);
         others = λ e arc at off.
             let apart : e ≢ number = λ same. off (tails arc (subst (λ (n : ℕ). arc_at net n ≡ Some arc) same at)) in
@@ -148,13 +151,13 @@ module _ {Z : Type 0} (state : Z → SummerState) (net : Net) (dest node to : �
             (cases_eq e number);
       }
 
-  pub fed-all : (k : ℕ) (old now : SummersList Z) → es ≡ numbers (λ (arc : Arc). arc.tail == node) 1 net.arcs → length es ≤ k → FedSome k old now → (e : ℕ) (arc : Arc) (count total : ℕ) → arc_at net e ≡ Some arc → arc.tail ≡ node
-      → Contains (numbers (λ (arc : Arc). arc.tail == node) 1 net.arcs) e → SummedAs state net dest arc count total (summers_at old e) → count ≤ values_below net dest arc to
-      → SummedAs state net dest arc (values_below net dest arc to) total (summers_at now e)
-  fed-all k old now same past fed e arc count total at tail has summed less =
+  pub fed-all : (k : ℕ) (old now : SummersList Z) → es ≡ numbers (λ (arc : Arc). arc.tail == node) 1 net.arcs → length es ≤ k → FedSome k old now → (e : ℕ) (arc : Arc) (count total start : ℕ) → arc_at net e ≡ Some arc → arc.tail ≡ node
+      → Contains (numbers (λ (arc : Arc). arc.tail == node) 1 net.arcs) e → SummedAs state net dest arc count total start (summers_at old e) → count ≤ values_below net dest arc to
+      → SummedAs state net dest arc (values_below net dest arc to) total start (summers_at now e)
+  fed-all k old now same past fed e arc count total start at tail has summed less =
       let there : has.0 < length es = subst (λ (xs : List ℕ). has.0 < length xs) (sym same) has.1 in
       let is : e ≡ get_or es has.0 e = sym has.2 ∙ ap (λ (xs : List ℕ). get_or xs has.0 e) (sym same) in
-      fed.done has.0 e arc count total (omega arith) is at tail summed less
+      fed.done has.0 e arc count total start (omega arith) is at tail summed less
 
 -- ---- least times
 le-from : (m n : ℕ) → nat_le m n ≡ true → m ≤ n
@@ -245,10 +248,10 @@ none-states : {Z : Type 0} (state : Z → SummerState) (o : Option (Box (Summers
 none-states state None are = refl
 none-states state (Some two) are = absurd (none-some two.value (sym are))
 
-fed-none : (net : Net) (dest : ℕ) → TimeLaws net dest → (arc : Arc) (total : ℕ) (s : SummerState) (f : ℕ → ℕ) → s ≡ unfed total arc → ((u : ℕ) → u < least_to net dest arc.head → f u ≡ 0)
-    → IsFed s arc.time (least_to net dest arc.head) f × (length s.values ≡ 0) × (length s.values + s.room ≡ total)
-fed-none net dest laws arc total s f is early =
-    subst (λ (x : SummerState). IsFed x arc.time (least_to net dest arc.head) f × (length x.values ≡ 0) × (length x.values + x.room ≡ total)) (sym is) (
+fed-none : (net : Net) (dest : ℕ) → TimeLaws net dest → (arc : Arc) (total start : ℕ) (s : SummerState) (f : ℕ → ℕ) → s ≡ unfed total start arc → ((u : ℕ) → u < least_to net dest arc.head → f u ≡ 0)
+    → IsFed s arc.time (least_to net dest arc.head) f × (length s.values ≡ 0) × (length s.values + s.room ≡ total) × (s.start ≡ start)
+fed-none net dest laws arc total start s f is early =
+    subst (λ (x : SummerState). IsFed x arc.time (least_to net dest arc.head) f × (length x.values ≡ 0) × (length x.values + x.room ≡ total) × (x.start ≡ start)) (sym is) (
       record {
         kernel = (let same : total ≡ 0 + total = omega arith in ap (λ (n : ℕ). kernel_of n arc.time) same);
         values = λ a less. absurd (omega arith);
@@ -256,19 +259,20 @@ fed-none net dest laws arc total s f is early =
       },
       refl,
       (let same : 0 + total ≡ total = omega arith in same),
+      refl,
     )
 
-first-found : {Z : Type 0} (state : Z → SummerState) (net : Net) (dest : ℕ) → TimeLaws net dest → (arc : Arc) (total : ℕ) (o : Option (Box (Summers Z) Global)) → is_closed arc.time ≡ false
-    → states_of state o ≡ Some (record { lower = unfed total arc; upper = unfed total arc }) → SummedAs state net dest arc 0 total (unboxed o)
-first-found {Z} state net dest laws arc total None opened are = absurd (none-some (record { lower = unfed total arc; upper = unfed total arc }) are)
-first-found {Z} state net dest laws arc total (Some two) opened are =
-    let both : record { lower = state two.value.lower; upper = state two.value.upper } ≡ record { lower = unfed total arc; upper = unfed total arc } = some-is (record { lower = state two.value.lower; upper = state two.value.upper }) (record { lower = unfed total arc; upper = unfed total arc }) are in
-    let lower = fed-none net dest laws arc total (state two.value.lower) (lo net dest arc.head) (ap (λ (s : ArcSums). s.lower) both) (λ u early. (zero-below net dest laws arc.head u early).0) in
-    let upper = fed-none net dest laws arc total (state two.value.upper) (hi net dest arc.head) (ap (λ (s : ArcSums). s.upper) both) (λ u early. (zero-below net dest laws arc.head u early).1) in
+first-found : {Z : Type 0} (state : Z → SummerState) (net : Net) (dest : ℕ) → TimeLaws net dest → (arc : Arc) (total start : ℕ) (o : Option (Box (Summers Z) Global)) → is_closed arc.time ≡ false
+    → states_of state o ≡ Some (record { lower = unfed total start arc; upper = unfed total start arc }) → SummedAs state net dest arc 0 total start (unboxed o)
+first-found {Z} state net dest laws arc total start None opened are = absurd (none-some (record { lower = unfed total start arc; upper = unfed total start arc }) are)
+first-found {Z} state net dest laws arc total start (Some two) opened are =
+    let both : record { lower = state two.value.lower; upper = state two.value.upper } ≡ record { lower = unfed total start arc; upper = unfed total start arc } = some-is (record { lower = state two.value.lower; upper = state two.value.upper }) (record { lower = unfed total start arc; upper = unfed total start arc }) are in
+    let lower = fed-none net dest laws arc total start (state two.value.lower) (lo net dest arc.head) (ap (λ (s : ArcSums). s.lower) both) (λ u early. (zero-below net dest laws arc.head u early).0) in
+    let upper = fed-none net dest laws arc total start (state two.value.upper) (hi net dest arc.head) (ap (λ (s : ArcSums). s.upper) both) (λ u early. (zero-below net dest laws arc.head u early).1) in
     record {
       two = two.value;
       are = refl;
-      is = record { open_arc = opened; lower = lower.0; upper = upper.0; lower_count = lower.1; upper_count = upper.1; lower_total = lower.2; upper_total = upper.2 };
+      is = record { open_arc = opened; lower = lower.0; upper = upper.0; lower_count = lower.1; upper_count = upper.1; lower_total = lower.2; upper_total = upper.2; lower_start = lower.3; upper_start = upper.3 };
     }
 
 none-found : {Z : Type 0} (state : Z → SummerState) (o : Option (Box (Summers Z) Global)) → states_of state o ≡ None → unboxed o ≡ None
@@ -277,71 +281,76 @@ none-found {Z} state (Some two) are = absurd (none-some (record { lower = state 
 
 module _ {Z : Type 0} (state : Z → SummerState) (net : Net) (region : AskRegion) (laws : TimeLaws net region.dest) (is : IsRegion region net region.origin region.dest region.budget) (times : (i : ℕ) → IsNode net i → up_to END_LIMIT (time_at region.least i) ≡ least_to net region.dest i)
     (needs : (i : ℕ) → IsNode net i → get_or region.need (i - 1) 0 ≤ END_LIMIT) (at-dest : pairs_at net region.origin region.dest region.budget region.dest ≡ 0) where
-  pub summed-first : (before : TablesView) (broad : SummersList Z) → ((e : ℕ) (arc : Arc) → arc_at net e ≡ Some arc → get_or (map (states_of state) broad) (e - 1) None ≡ first_sums net region arc) → AllSummed state net region before before broad
+  pub summed-first : (before : TablesView) (broad : SummersList Z) → ((e : ℕ) (arc : Arc) → arc_at net e ≡ Some arc → get_or (map (states_of state) broad) (e - 1) None ≡ first_sums net region before arc) → AllSummed state net region before before broad
   summed-first before broad are e arc at = record {
     broad = λ wide.
-        let first : states_of state (get_or broad (e - 1) None) ≡ Some (record { lower = unfed (most_fed net region arc) arc; upper = unfed (most_fed net region arc) arc }) = sym (sums-get state broad e) ∙ are e arc at ∙ (rw wide refl) in
+        let first : states_of state (get_or broad (e - 1) None) ≡ Some (record { lower = unfed (most_fed net region arc) (first_position before region arc) arc; upper = unfed (most_fed net region arc) (first_position before region arc) arc }) = sym (sums-get state broad e) ∙ are e arc at ∙ (rw wide refl) in
         let still : fed_so_far net region before before arc ≡ 0 = rw (le-ltb (known_end (table_at before arc.tail)) (known_end (table_at before arc.tail)) (omega arith)) refl in
-        subst (λ (n : ℕ). SummedAs state net region.dest arc n (most_fed net region arc) (summers_at broad e)) (sym still)
-        (first-found state net region.dest laws arc (most_fed net region arc) (get_or broad (e - 1) None) (broad-open net region laws is times needs at-dest arc wide) first);
+        subst (λ (n : ℕ). SummedAs state net region.dest arc n (most_fed net region arc) (first_position before region arc) (summers_at broad e)) (sym still)
+        (first-found state net region.dest laws arc (most_fed net region arc) (first_position before region arc) (get_or broad (e - 1) None) (broad-open net region laws is times needs at-dest arc wide) first);
     narrow = λ thin.
         let first : states_of state (get_or broad (e - 1) None) ≡ None = sym (sums-get state broad e) ∙ are e arc at ∙ (rw thin refl) in
         none-found state (get_or broad (e - 1) None) first;
   }
 
+  few-fed : (before now : TablesView) (arc : Arc) (node to : ℕ) → known_end (table_at now node) < to → arc.tail ≡ node → fed_so_far net region before now arc ≤ values_below net region.dest arc to
+  few-fed before now arc node to some tail =
+      let end : known_end (table_at now arc.tail) < to = subst (λ (i : ℕ). known_end (table_at now i) < to) (sym tail) some in
+      ⊎_elim
+      (λ (grown : known_end (table_at before arc.tail) < known_end (table_at now arc.tail)). rw (lt-ltb (known_end (table_at before arc.tail)) (known_end (table_at now arc.tail)) grown) (omega (arith, end)))
+      (λ (still : known_end (table_at now arc.tail) ≤ known_end (table_at before arc.tail)). rw (le-ltb (known_end (table_at before arc.tail)) (known_end (table_at now arc.tail)) still) (omega arith))
+      (cases_lt (known_end (table_at before arc.tail)) (known_end (table_at now arc.tail)))
+
   -- before an extent of a node the summers of its arcs can be fed
-  pub summed-can : (before now : TablesView) (broad : SummersList Z) (node to : ℕ) → AllSummed state net region before now broad → known_end (table_at now node) < to → to ≤ get_or region.need (node - 1) 0 → AllCanFeed state net region.dest node to broad
-  summed-can before now broad node to all some less e arc two at tail found =
+  pub summed-can : (places : ℕ) (before now : TablesView) (broad : SummersList Z) (node to : ℕ) → HasPlaces net region places → AllSummed state net region before now broad → known_end (table_at now node) < to → to ≤ get_or region.need (node - 1) 0
+      → AllCanFeed state net region.dest node to places broad
+  summed-can places before now broad node to fits all some less e arc two at tail found =
       ⊎_elim
       (λ (wide : is_broad net region arc ≡ true).
       let summed = (all e arc at).broad wide in
       let same : summed.two ≡ two = (let both : Some summed.two ≡ Some two = sym summed.are ∙ found in cc) in
-      let end : known_end (table_at now arc.tail) < to = subst (λ (i : ℕ). known_end (table_at now i) < to) (sym tail) some in
-      let few : fed_so_far net region before now arc ≤ values_below net region.dest arc to =
-      ⊎_elim
-      (λ (grown : known_end (table_at before arc.tail) < known_end (table_at now arc.tail)). rw (lt-ltb (known_end (table_at before arc.tail)) (known_end (table_at now arc.tail)) grown) (omega (arith, end)))
-      (λ (still : known_end (table_at now arc.tail) ≤ known_end (table_at before arc.tail)). rw (le-ltb (known_end (table_at before arc.tail)) (known_end (table_at now arc.tail)) still) (omega arith))
-      (cases_lt (known_end (table_at before arc.tail)) (known_end (table_at now arc.tail))) in
       let needed : to ≤ get_or region.need (arc.tail - 1) 0 = subst (λ (i : ℕ). to ≤ get_or region.need (i - 1) 0) (sym tail) less in
       record {
         count = fed_so_far net region before now arc;
         total = most_fed net region arc;
-        is = subst (λ (s : Summers Z). IsSummed state net region.dest arc (fed_so_far net region before now arc) (most_fed net region arc) s) same summed.is;
-        less = few;
+        start = first_position before region arc;
+        is = subst (λ (s : Summers Z). IsSummed state net region.dest arc (fed_so_far net region before now arc) (most_fed net region arc) (first_position before region arc) s) same summed.is;
+        less = few-fed before now arc node to some tail;
         room = room-fits net region laws is times needs at-dest e arc to at wide needed;
+        work = fits e arc at wide;
       })
       (λ (thin : is_broad net region arc ≡ false). absurd (none-some two (sym ((all e arc at).narrow thin) ∙ found)))
       (cases_Bool (is_broad net region arc))
 
   -- what feeding them says
   pub record WereFed (node to : ℕ) (old new : SummersList Z) : Type 0 where
-    pub fed : (e : ℕ) (arc : Arc) (count total : ℕ) → arc_at net e ≡ Some arc → arc.tail ≡ node → SummedAs state net region.dest arc count total (summers_at old e) → count ≤ values_below net region.dest arc to
-        → SummedAs state net region.dest arc (values_below net region.dest arc to) total (summers_at new e)
+    pub fed : (e : ℕ) (arc : Arc) (count total start : ℕ) → arc_at net e ≡ Some arc → arc.tail ≡ node → SummedAs state net region.dest arc count total start (summers_at old e) → count ≤ values_below net region.dest arc to
+        → SummedAs state net region.dest arc (values_below net region.dest arc to) total start (summers_at new e)
     pub others : (e : ℕ) (arc : Arc) → arc_at net e ≡ Some arc → arc.tail ≢ node → summers_at new e ≡ summers_at old e
     pub none : (e : ℕ) → 1 ≤ e → summers_at old e ≡ None → summers_at new e ≡ None
 
   fed-here : (before now : TablesView) (old new : SummersList Z) (node to : ℕ) → AllSummed state net region before now old → known_end (table_at now node) < to → to ≤ get_or region.need (node - 1) 0 → WereFed node to old new
-      → (e : ℕ) (arc : Arc) → arc_at net e ≡ Some arc → arc.tail ≡ node → is_broad net region arc ≡ true → SummedAs state net region.dest arc (values_below net region.dest arc to) (most_fed net region arc) (summers_at new e)
+      → (e : ℕ) (arc : Arc) → arc_at net e ≡ Some arc → arc.tail ≡ node → is_broad net region arc ≡ true → SummedAs state net region.dest arc (values_below net region.dest arc to) (most_fed net region arc) (first_position before region arc) (summers_at new e)
   fed-here before now old new node to all some less were e arc at tail wide =
       let summed = (all e arc at).broad wide in
-      let can = summed-can before now old node to all some less e arc summed.two at tail summed.are in
-      let count : can.count ≡ fed_so_far net region before now arc = sym can.is.lower_count ∙ summed.is.lower_count in
-      were.fed e arc (fed_so_far net region before now arc) (most_fed net region arc) at tail summed (omega (arith, count, can.less))
+      were.fed e arc (fed_so_far net region before now arc) (most_fed net region arc) (first_position before region arc) at tail summed (few-fed before now arc node to some tail)
 
   pub fed-all-arcs : (before now : TablesView) (old new : SummersList Z) (node to : ℕ) → AllSummed state net region before now old → known_end (table_at now node) < to → to ≤ get_or region.need (node - 1) 0 → WereFed node to old new
-      → AllFed state net region.dest node to new
-  fed-all-arcs before now old new node to all some less were e arc two at tail found =
+      → known_end (table_at before node) ≤ known_end (table_at now node) → AllFed state net region.dest node (known_end (table_at now node)) to new
+  fed-all-arcs before now old new node to all some less were rise e arc two at tail found =
       ⊎_elim
       (λ (wide : is_broad net region arc ≡ true).
       let summed = fed-here before now old new node to all some less were e arc at tail wide in
       let same : summed.two ≡ two = (let both : Some summed.two ≡ Some two = sym summed.are ∙ found in cc) in
-      let is' : IsSummed state net region.dest arc (values_below net region.dest arc to) (most_fed net region arc) two = subst (λ (s : Summers Z). IsSummed state net region.dest arc (values_below net region.dest arc to) (most_fed net region arc) s) same summed.is in
+      let head : base_by region.least arc.head ≡ least_to net region.dest arc.head = times arc.head (laws.arc e arc at).head in
+      let late : known_end (table_at before arc.tail) ≤ known_end (table_at now node) = (let was : known_end (table_at before arc.tail) ≡ known_end (table_at before node) = ap (λ (i : ℕ). known_end (table_at before i)) tail in omega (arith, was, rise)) in
+      let is' : IsSummed state net region.dest arc (values_below net region.dest arc to) (most_fed net region arc) (first_position before region arc) two = subst (λ (s : Summers Z). IsSummed state net region.dest arc (values_below net region.dest arc to) (most_fed net region arc) (first_position before region arc) s) same summed.is in
       record {
         open_arc = is'.open_arc;
         lower = is'.lower;
         upper = is'.upper;
-        lower_reach = omega (arith, is'.lower_count);
-        upper_reach = omega (arith, is'.upper_count);
+        lower_reach = (omega (arith, is'.lower_start, head, late), omega (arith, is'.lower_count));
+        upper_reach = (omega (arith, is'.upper_start, head, late), omega (arith, is'.upper_count));
       })
       (λ (thin : is_broad net region arc ≡ false). absurd (none-some two (sym (were.none e (number-low net e arc at) ((all e arc at).narrow thin)) ∙ found)))
       (cases_Bool (is_broad net region arc))
@@ -358,13 +367,13 @@ module _ {Z : Type 0} (state : Z → SummerState) (net : Net) (region : AskRegio
         let more : known_end (table_at before arc.tail) < known_end (table_at next arc.tail) = (let was : known_end (table_at before arc.tail) ≡ known_end (table_at before node) = ap (λ (i : ℕ). known_end (table_at before i)) tail in omega (arith, was, end', rise, some)) in
         let count : fed_so_far net region before next arc ≡ values_below net region.dest arc to =
         (rw (lt-ltb (known_end (table_at before arc.tail)) (known_end (table_at next arc.tail)) more) (ap (values_below net region.dest arc) end')) in
-        subst (λ (n : ℕ). SummedAs state net region.dest arc n (most_fed net region arc) (summers_at new e)) (sym count) (fed-here before now old new node to all some less were e arc at tail wide))
+        subst (λ (n : ℕ). SummedAs state net region.dest arc n (most_fed net region arc) (first_position before region arc) (summers_at new e)) (sym count) (fed-here before now old new node to all some less were e arc at tail wide))
         (λ (off : arc.tail ≡ node → ⊥).
         let kept : table_at next arc.tail ≡ table_at now arc.tail = longer.only.others arc.tail (laws.arc e arc at).tail.0 off in
         let count : fed_so_far net region before next arc ≡ fed_so_far net region before now arc =
         ap (λ (s : NodeTable). if nat_lt (known_end (table_at before arc.tail)) (known_end s) then values_below net region.dest arc (known_end s) else 0) kept in
-        subst (λ (n : ℕ). SummedAs state net region.dest arc n (most_fed net region arc) (summers_at new e)) (sym count)
-        (subst (λ (o : Option (Summers Z)). SummedAs state net region.dest arc (fed_so_far net region before now arc) (most_fed net region arc) o) (sym (were.others e arc at off)) ((all e arc at).broad wide)))
+        subst (λ (n : ℕ). SummedAs state net region.dest arc n (most_fed net region arc) (first_position before region arc) (summers_at new e)) (sym count)
+        (subst (λ (o : Option (Summers Z)). SummedAs state net region.dest arc (fed_so_far net region before now arc) (most_fed net region arc) (first_position before region arc) o) (sym (were.others e arc at off)) ((all e arc at).broad wide)))
         (cases_eq arc.tail node);
     narrow = λ thin. were.none e (number-low net e arc at) ((all e arc at).narrow thin);
   }
@@ -405,7 +414,7 @@ module _ {Z : Type 0} (state : Z → SummerState) (net : Net) (region : AskRegio
   spent-arc before next broad all grown met e arc at wide =
       let tail : IsNode net arc.tail = (laws.arc e arc at).tail in
       let count : fed_so_far net region before next arc ≡ values_fed net region before arc = fed-end before next arc (grown arc.tail tail) (met arc.tail tail) in
-      let summed = subst (λ (n : ℕ). SummedAs state net region.dest arc n (most_fed net region arc) (summers_at broad e)) count ((all e arc at).broad wide) in
+      let summed = subst (λ (n : ℕ). SummedAs state net region.dest arc n (most_fed net region arc) (first_position before region arc) (summers_at broad e)) count ((all e arc at).broad wide) in
       record {
         two = record { lower = state summed.two.lower; upper = state summed.two.upper };
         are = sums-get state broad e ∙ two-states (get_or broad (e - 1) None) summed.two summed.are;

@@ -10,6 +10,7 @@ use Rattle.sota_network.specs.Grid.{lo, hi}
 use Rattle.sota_network.specs.Region.{NARROW, pairs_at}
 use Rattle.sota_network.specs.declared.network.Arc.{Arc}
 use Rattle.sota_online.specs.Summer.{SummerState, kernel_of}
+use Rattle.sota_bounds.specs.Cells.{pairs_by_lists}
 use Rattle.sota_bounds.specs.Regions.{IsRegion}
 use Rattle.sota_bounds.specs.declared.ask.AskRegion.{AskRegion}
 use Rattle.sota_kept.specs.Ticks.{least_to}
@@ -18,18 +19,20 @@ use Rattle.sota_kept.specs.TableLists.{AreTables, IsSettled}
 use Rattle.sota_order.specs.Orders.{OrderView}
 use Rattle.sota_tables.specs.Views.{TablesView, lists_of, table_at, room_of}
 use Rattle.sota_fill.specs.declared.broad.Summers.{Summers}
+use Rattle.sota_plan.specs.Steps.{base_by}
 
 -- the two summers of an arc: one is fed the lower values at its head, the other the upper ones
 pub record ArcSums : Type 0 where
   pub lower : SummerState
   pub upper : SummerState
 
--- the region of the ask, the order of the extents, and for each arc by its number two summers or
--- none
+-- the region of the ask, the order of the extents, for each arc by its number two summers or none,
+-- and for how long kernels there is room to work
 pub record RunView : Type 0 where
   pub region : AskRegion
   pub order : OrderView
   pub sums : List (Option ArcSums)
+  pub places : ℕ
 
 -- the two summers that a run keeps, as their states
 abbrev pub states_of : {Z : Type 0} → (Z → SummerState) → Option (Box (Summers Z) Global)
@@ -37,6 +40,11 @@ abbrev pub states_of : {Z : Type 0} → (Z → SummerState) → Option (Box (Sum
 states_of state None = None
 states_of state (Some two) =
     Some (record { lower = state two.value.lower; upper = state two.value.upper })
+
+-- how long their kernel is, 0 where there are none
+abbrev pub kernel_places : Option ArcSums → ℕ
+kernel_places None = 0
+kernel_places (Some two) = length two.lower.kernel
 
 -- those of arc e
 abbrev pub sums_at : RunView → ℕ → Option ArcSums
@@ -54,24 +62,47 @@ most_fed net region arc = pairs_at net region.origin region.dest region.budget a
 abbrev pub is_broad : Net → AskRegion → Arc → Bool
 is_broad net region arc = is_broad_by (most_fed net region arc) region.budget arc
 
+-- the position of the sum that belongs to the first entry that the tail of an arc lacks
+abbrev pub first_position : TablesView → AskRegion → Arc → ℕ
+first_position tables region arc = known_end (table_at tables arc.tail) + 1
+    - (least_tick arc.time + base_by region.least arc.head)
+
 -- a summer of the arc with room for so many values, to which none was fed
-abbrev pub unfed : ℕ → Arc → SummerState
-unfed room arc = record { kernel = kernel_of room arc.time; values = []; room = room }
+abbrev pub unfed : ℕ → ℕ → Arc → SummerState
+unfed room start arc = record {
+  kernel = kernel_of room arc.time;
+  values = [];
+  room = room;
+  start = start;
+}
 
 -- two such summers where an arc whose tail has so many pairs is broad, else none
-abbrev pub first_sums_by : ℕ → ℕ → Arc → Option ArcSums
-first_sums_by pairs last arc =
+abbrev pub first_sums_by : ℕ → ℕ → ℕ → Arc → Option ArcSums
+first_sums_by pairs start last arc =
     if is_broad_by pairs last arc
-    then Some (record { lower = unfed pairs arc; upper = unfed pairs arc })
+    then Some (record { lower = unfed pairs start arc; upper = unfed pairs start arc })
     else None
 
-abbrev pub first_sums : Net → AskRegion → Arc → Option ArcSums
-first_sums net region arc = first_sums_by (most_fed net region arc) region.budget arc
+abbrev pub first_sums : Net → AskRegion → TablesView → Arc → Option ArcSums
+first_sums net region tables arc = first_sums_by (most_fed net region arc)
+    (first_position tables region arc) region.budget arc
+
+-- there is room to work for the kernel of an arc, where it is broad by the lists of a region
+abbrev pub FitsIn : AskRegion → ℕ → Arc → Type 0
+FitsIn region places arc =
+    is_broad_by (pairs_by_lists region.least region.need arc.tail) region.budget arc ≡ true
+    → length (kernel_of (pairs_by_lists region.least region.need arc.tail) arc.time) ≤ places
+
+-- there is room to work for the kernels of all broad arcs
+abbrev pub HasPlaces : Net → AskRegion → ℕ → Type 0
+HasPlaces net region places = (e : ℕ) (arc : Arc) → arc_at net e ≡ Some arc
+    → is_broad net region arc ≡ true
+    → length (kernel_of (most_fed net region arc) arc.time) ≤ places
 
 -- ---- ready to be filled
 -- the tables are settled, and a node without an entry above its least time has that as its base.
 -- The region is that of the network, there is room up to each need, the order is that of the tables
--- and the needs, and no value is fed yet
+-- and the needs, no value is fed yet, and there is room to work
 pub record IsReady (run : RunView) (tables : TablesView) (net : Net) : Type 0 where
   pub valid : IsNet net
   pub tables_are : AreTables (lists_of tables) net.nodes
@@ -92,7 +123,8 @@ pub record IsReady (run : RunView) (tables : TablesView) (net : Net) : Type 0 wh
   }
   pub arcs : length run.sums ≡ length net.arcs
   pub sums : (e : ℕ) (arc : Arc) → arc_at net e ≡ Some arc
-      → sums_at run e ≡ first_sums net run.region arc
+      → sums_at run e ≡ first_sums net run.region tables arc
+  pub work : HasPlaces net run.region run.places
 
 -- ---- spent
 -- how many values the summers of an arc are fed: where its tail missed entries, those that these

@@ -12,7 +12,7 @@ use sota_bounds::AskRegion;
 use sota_fill::{Part, Summers, Target, fill_extent};
 use sota_kept::kept::{asks_end, tables_stay_right};
 use sota_network::Network;
-use sota_online::Summer;
+use sota_online::{Summer, Workspace};
 use sota_order::Order;
 use sota_tables::Tables;
 use sota_tables::laws::views_are_lists;
@@ -27,6 +27,7 @@ fn extend_all<Z: Summer, M: Ledger, P: Ledger>(
     region: &AskRegion,
     order: &mut Order,
     broad: &mut [Option<Box<Summers<Z>>>],
+    workspace: &mut Workspace,
     products: &mut Steps<M>,
     pushes: &mut Steps<P>,
 )
@@ -34,6 +35,7 @@ fn extend_all<Z: Summer, M: Ledger, P: Ledger>(
       region = region.now;
       order = order.old;
       sums = map (states_of Z.state) broad.old;
+      places = workspace.old;
     }) tables.old network.now }
     ensures state { state_of (lists_of tables.new)
         ≡ grown_state network.now region.now.origin region.now.dest region.now.budget
@@ -46,6 +48,7 @@ fn extend_all<Z: Summer, M: Ledger, P: Ledger>(
       region = region.now;
       order = order.new;
       sums = map (states_of Z.state) broad.new;
+      places = workspace.new;
     }) network.now }
 {
     asks_end();
@@ -60,7 +63,7 @@ fn extend_all<Z: Summer, M: Ledger, P: Ledger>(
     let mut part = Part::new();
     while let Some(extent) = order.next_extent(network) {
         let (node, to) = (extent.node, extent.to);
-        feed_extent(&target, tables, broad, node, to, products);
+        feed_extent(&target, tables, broad, node, to, workspace, products);
         fill_extent(
             tables,
             &target,
@@ -102,6 +105,7 @@ pub fn extend<Z: Summer, M: Ledger, P: Ledger>(
         run.region,
         &mut run.order,
         run.broad.as_mut_slice(),
+        &mut run.workspace,
         products,
         pushes,
     );

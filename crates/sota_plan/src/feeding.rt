@@ -9,7 +9,7 @@ ghost use Rattle.sota_kept.specs.Ticks.{END_LIMIT};
 ghost use Rattle.sota_kept.specs.NodeTables.{AreReady, IsExtent, known_end};
 ghost use Rattle.sota_kept.specs.NodeTables.{lower_in, upper_in};
 ghost use Rattle.sota_tables.specs.Views.{HasNode, table_at};
-ghost use Rattle.sota_fill.specs.Fed.{IsFed, IsTarget, summers_at};
+ghost use Rattle.sota_fill.specs.Fed.{IsFed, IsSameSummer, IsTarget, summers_at};
 ghost use Rattle.sota_fill.specs.Fills.{ReadsAs};
 ghost use Rattle.sota_fill.specs.declared.broad.Summers.{Summers};
 ghost use Rattle.sota_plan.specs.Summed.{CanFeed, AllCanFeed, SummedAs, values_below};
@@ -18,7 +18,7 @@ use sota_fill::laws::extents_read_the_grid;
 use sota_fill::{Summers, Target};
 use sota_network::Arc;
 use sota_network::laws::numbers_of_arcs;
-use sota_online::Summer;
+use sota_online::{Summer, Workspace};
 use sota_tables::Tables;
 use sota_units::{ArcId, Grain, NodeId, Steps};
 use std::sync::ledger::Ledger;
@@ -29,40 +29,48 @@ fn feed_row<Z: Summer, M: Ledger>(
     row: &[Grain],
     skip: usize,
     count: u32,
+    workspace: &mut Workspace,
     products: &mut Steps<M>,
 )
     requires room { count ≤ length (Z.state summer.old).values + (Z.state summer.old).room }
     requires row { 0 < count → skip + count ≤ length row.now }
     requires limit { skip ≤ 65536 }
+    requires work { length (Z.state summer.old).kernel ≤ workspace.old }
     ensures fed { (time : List (ℕ × ℕ)) (base : ℕ) (f : ℕ → ℕ)
         → IsFed (Z.state summer.old) time base f
         → ((a : ℕ) → a < count → slice_index row.now (skip + a) ≡ f (base + a))
         → IsFed (Z.state summer.new) time base f }
     ensures count { length (Z.state summer.new).values
         ≡ max (length (Z.state summer.old).values) count }
-    ensures total { length (Z.state summer.new).values + (Z.state summer.new).room
-        ≡ length (Z.state summer.old).values + (Z.state summer.old).room }
+    ensures same { IsSameSummer (Z.state summer.old) (Z.state summer.new) }
+    ensures work { workspace.new ≡ workspace.old }
 {
     for index in summer.fed()..count {
-        summer.feed(row[skip + index as usize], products);
+        summer.feed(row[skip + index as usize], workspace, products);
     }
 }
 
 /// Feeds a summer until so many values are fed: who stands at the destination has arrived.
-fn feed_ones<Z: Summer, M: Ledger>(summer: &mut Z, count: u32, products: &mut Steps<M>)
+fn feed_ones<Z: Summer, M: Ledger>(
+    summer: &mut Z,
+    count: u32,
+    workspace: &mut Workspace,
+    products: &mut Steps<M>,
+)
     requires room { count ≤ length (Z.state summer.old).values + (Z.state summer.old).room }
+    requires work { length (Z.state summer.old).kernel ≤ workspace.old }
     ensures fed { (time : List (ℕ × ℕ)) (base : ℕ) (f : ℕ → ℕ)
         → IsFed (Z.state summer.old) time base f
         → ((a : ℕ) → a < count → ONE ≡ f (base + a))
         → IsFed (Z.state summer.new) time base f }
     ensures count { length (Z.state summer.new).values
         ≡ max (length (Z.state summer.old).values) count }
-    ensures total { length (Z.state summer.new).values + (Z.state summer.new).room
-        ≡ length (Z.state summer.old).values + (Z.state summer.old).room }
+    ensures same { IsSameSummer (Z.state summer.old) (Z.state summer.new) }
+    ensures work { workspace.new ≡ workspace.old }
 {
     let mut fed = summer.fed();
     while fed < count {
-        summer.feed(Grain::ONE, products);
+        summer.feed(Grain::ONE, workspace, products);
         fed += 1;
     }
 }
@@ -76,6 +84,7 @@ fn feed_both<Z: Summer, M: Ledger>(
     two: &mut Summers<Z>,
     base: u32,
     to: u32,
+    workspace: &mut Workspace,
     products: &mut Steps<M>,
 )
     requires open { is_closed arc.now.time ≡ false }
@@ -88,6 +97,8 @@ fn feed_both<Z: Summer, M: Ledger>(
         ≤ length (Z.state two.old.lower).values + (Z.state two.old.lower).room }
     requires upper_room { to - (least_tick arc.now.time + base)
         ≤ length (Z.state two.old.upper).values + (Z.state two.old.upper).room }
+    requires lower_work { length (Z.state two.old.lower).kernel ≤ workspace.old }
+    requires upper_work { length (Z.state two.old.upper).kernel ≤ workspace.old }
     ensures lower { (f : ℕ → ℕ) → IsFed (Z.state two.old.lower) arc.now.time base f
         → ((u : ℕ) → base ≤ u → u + least_tick arc.now.time < to
         → lower_in dest (table_at tables.now) arc.now.head u ≡ f u)
@@ -100,17 +111,16 @@ fn feed_both<Z: Summer, M: Ledger>(
         ≡ max (length (Z.state two.old.lower).values) (to - (least_tick arc.now.time + base)) }
     ensures upper_count { length (Z.state two.new.upper).values
         ≡ max (length (Z.state two.old.upper).values) (to - (least_tick arc.now.time + base)) }
-    ensures lower_total { length (Z.state two.new.lower).values + (Z.state two.new.lower).room
-        ≡ length (Z.state two.old.lower).values + (Z.state two.old.lower).room }
-    ensures upper_total { length (Z.state two.new.upper).values + (Z.state two.new.upper).room
-        ≡ length (Z.state two.old.upper).values + (Z.state two.old.upper).room }
+    ensures lower_same { IsSameSummer (Z.state two.old.lower) (Z.state two.new.lower) }
+    ensures upper_same { IsSameSummer (Z.state two.old.upper) (Z.state two.new.upper) }
+    ensures work { workspace.new ≡ workspace.old }
 {
     let count = to
         .saturating_sub(base)
         .saturating_sub(arc.time.least().get());
     if arc.head == dest {
-        feed_ones(&mut two.lower, count, products);
-        feed_ones(&mut two.upper, count, products);
+        feed_ones(&mut two.lower, count, workspace, products);
+        feed_ones(&mut two.upper, count, workspace, products);
     } else {
         let skip = (base - tables.base(arc.head)) as usize;
         feed_row(
@@ -118,6 +128,7 @@ fn feed_both<Z: Summer, M: Ledger>(
             tables.lower_row(arc.head),
             skip,
             count,
+            workspace,
             products,
         );
         feed_row(
@@ -125,6 +136,7 @@ fn feed_both<Z: Summer, M: Ledger>(
             tables.upper_row(arc.head),
             skip,
             count,
+            workspace,
             products,
         );
     }
@@ -138,6 +150,7 @@ fn feed_arc<Z: Summer, M: Ledger>(
     broad: &mut [Option<Box<Summers<Z>>>],
     number: ArcId,
     to: u32,
+    workspace: &mut Workspace,
     products: &mut Steps<M>,
 )
     requires number { (1 ≤ number) × (number ≤ length target.now.network.now.arcs) }
@@ -152,23 +165,25 @@ fn feed_arc<Z: Summer, M: Ledger>(
         → to ≤ known_end (table_at tables.now arc.head) + least_tick arc.time }
     requires can { (arc : Arc) (two : Summers Z) → arc_at target.now.network.now number ≡ Some arc
         → summers_at broad.old number ≡ Some two
-        → CanFeed Z.state target.now.network.now target.now.dest arc to two }
-    ensures fed { (arc : Arc) (count total : ℕ) → arc_at target.now.network.now number ≡ Some arc
-        → SummedAs Z.state target.now.network.now target.now.dest arc count total
+        → CanFeed Z.state target.now.network.now target.now.dest arc to workspace.old two }
+    ensures fed { (arc : Arc) (count total start : ℕ)
+        → arc_at target.now.network.now number ≡ Some arc
+        → SummedAs Z.state target.now.network.now target.now.dest arc count total start
         (summers_at broad.old number)
         → count ≤ values_below target.now.network.now target.now.dest arc to
         → SummedAs Z.state target.now.network.now target.now.dest arc
-        (values_below target.now.network.now target.now.dest arc to) total
+        (values_below target.now.network.now target.now.dest arc to) total start
         (summers_at broad.new number) }
     ensures none { summers_at broad.old number ≡ None → summers_at broad.new number ≡ None }
     ensures others { (e : ℕ) → 1 ≤ e → e ≢ number
         → summers_at broad.new e ≡ summers_at broad.old e }
     ensures length { length broad.new ≡ length broad.old }
+    ensures work { workspace.new ≡ workspace.old }
 {
     let arc = target.network.numbered(number);
     if let Some(two) = &mut broad[number.get() as usize - 1] {
         let base = target.base(arc.head);
-        feed_both(tables, target.dest, arc, two, base, to, products);
+        feed_both(tables, target.dest, arc, two, base, to, workspace, products);
     }
 }
 
@@ -179,6 +194,7 @@ pub(crate) fn feed_extent<Z: Summer, M: Ledger>(
     broad: &mut [Option<Box<Summers<Z>>>],
     node: NodeId,
     to: u32,
+    workspace: &mut Workspace,
     products: &mut Steps<M>,
 )
     requires valid { IsNet target.now.network.now }
@@ -189,24 +205,26 @@ pub(crate) fn feed_extent<Z: Summer, M: Ledger>(
     requires ready { AreReady target.now.network.now target.now.dest (table_at tables.now) }
     requires extent { IsExtent target.now.network.now target.now.dest (table_at tables.now) node
         to }
-    requires can { AllCanFeed Z.state target.now.network.now target.now.dest node to broad.old }
-    ensures fed { (e : ℕ) (arc : Arc) (count total : ℕ)
+    requires can { AllCanFeed Z.state target.now.network.now target.now.dest node to workspace.old
+        broad.old }
+    ensures fed { (e : ℕ) (arc : Arc) (count total start : ℕ)
         → arc_at target.now.network.now e ≡ Some arc → arc.tail ≡ node
-        → SummedAs Z.state target.now.network.now target.now.dest arc count total
+        → SummedAs Z.state target.now.network.now target.now.dest arc count total start
         (summers_at broad.old e)
         → count ≤ values_below target.now.network.now target.now.dest arc to
         → SummedAs Z.state target.now.network.now target.now.dest arc
-        (values_below target.now.network.now target.now.dest arc to) total
+        (values_below target.now.network.now target.now.dest arc to) total start
         (summers_at broad.new e) }
     ensures others { (e : ℕ) (arc : Arc) → arc_at target.now.network.now e ≡ Some arc
         → arc.tail ≢ node → summers_at broad.new e ≡ summers_at broad.old e }
     ensures none { (e : ℕ) → 1 ≤ e → summers_at broad.old e ≡ None
         → summers_at broad.new e ≡ None }
     ensures length { length broad.new ≡ length broad.old }
+    ensures work { workspace.new ≡ workspace.old }
 {
     numbers_of_arcs();
     extents_read_the_grid();
     for number in target.network.leaving(node) {
-        feed_arc(target, tables, broad, *number, to, products);
+        feed_arc(target, tables, broad, *number, to, workspace, products);
     }
 }

@@ -22,7 +22,7 @@ use sota_kept::kept::{needs_are_met, tables_stay_right};
 use sota_kept::laws::least_ticks;
 use sota_network::Network;
 use sota_network::laws::{lists_by_number, region_by_least_times};
-use sota_online::Summer;
+use sota_online::{Summer, Workspace};
 use sota_order::Order;
 use sota_order::laws::extents_of_tables;
 use sota_tables::Tables;
@@ -103,9 +103,9 @@ fn order_of(
 }
 
 /// Takes the first three steps of an ask, and all memory that its planning wants: room up to each
-/// need, two summers for each broad arc, and an order. The tables are those that are kept for the
-/// network, and the region is one of it within its limits. After NoMemory the tables are still kept
-/// for the network, and as before or as after these steps.
+/// need, two summers for each broad arc with room in which they work, and an order. The tables are
+/// those that are kept for the network, and the region is one of it within its limits. After
+/// NoMemory the tables are still kept for the network, and as before or as after these steps.
 pub fn prepare<'a, Z: Summer>(
     alloc: Global,
     network: &Network,
@@ -138,12 +138,14 @@ pub fn prepare<'a, Z: Summer>(
     views_are_lists();
     let arcs = network.arcs();
     let bases = bases_of(alloc, region.least.as_slice())?;
-    let broad = make_summers(alloc, arcs, region)?;
     make_room(tables, network, region, &bases)?;
     let order = order_of(alloc, network, tables, region)?;
+    let (broad, places) = make_summers(alloc, tables, region, arcs)?;
+    let workspace = Workspace::make(alloc, places)?;
     Ok(Run {
         region,
         order,
         broad,
+        workspace,
     })
 }

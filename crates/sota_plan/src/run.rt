@@ -3,18 +3,19 @@ ghost use Rattle.std.specs.Prelude.{◌≡◌};
 
 use sota_bounds::AskRegion;
 use sota_fill::Summers;
-use sota_online::Summer;
+use sota_online::{Summer, Workspace};
 use sota_order::Order;
 use std::marker::Model;
 
-/// What an ask is planned with: its region, the order in which the missing entries are filled, and
-/// two summers for each broad arc. One is fed the lower values at the arc's head, the other the
-/// upper ones.
+/// What an ask is planned with: its region, the order in which the missing entries are filled, two
+/// summers for each broad arc, and the room in which these work. One is fed the lower values at the
+/// arc's head, the other the upper ones.
 #[derive(Drop)]
 pub struct Run<'a, Z: Summer> {
     pub(crate) region: &'a AskRegion,
     pub(crate) order: Order,
     pub(crate) broad: Vec<Option<Box<Summers<Z>>>>,
+    pub(crate) workspace: Workspace,
 }
 
 impl<'a, Z: Summer> Model for Run<'a, Z> {
@@ -27,6 +28,7 @@ impl<'a, Z: Summer> Model for Run<'a, Z> {
       region = r.region.now;
       order = r.order;
       sums = map (states_of Z.state) r.broad.items;
+      places = r.workspace;
     } };
 }
 

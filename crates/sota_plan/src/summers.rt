@@ -1,15 +1,21 @@
 // The summers of broad arcs.
-ghost use Rattle.std.specs.Prelude.{◌≡◌, ◌-◌, ◌≤◌, length, map, IfOk};
+ghost use Rattle.std.specs.Prelude.{◌≡◌, ◌≤◌, length, map, IfOk, false};
 ghost use Rattle.std.specs.List.{All};
+ghost use Rattle.sota_hist.specs.Time.{is_closed};
 ghost use Rattle.sota_bounds.specs.Cells.{pairs_by_need, pairs_by_lists};
 ghost use Rattle.sota_kept.specs.Ticks.{END_LIMIT};
-ghost use Rattle.sota_plan.specs.Runs.{states_of, first_sums_by};
+ghost use Rattle.sota_kept.specs.NodeTables.{known_end};
+ghost use Rattle.sota_tables.specs.Views.{HasNode, table_at};
+ghost use Rattle.sota_plan.specs.Steps.{base_by};
+ghost use Rattle.sota_plan.specs.Runs.{FitsIn, kernel_places, states_of, first_position};
+ghost use Rattle.sota_plan.specs.Runs.{first_sums_by};
 
 use sota_bounds::AskRegion;
-use sota_fill::Summers;
+use sota_fill::{Summers, base_of};
 use sota_network::Arc;
 use sota_online::Summer;
-use sota_units::{NoMemory, Tick};
+use sota_tables::Tables;
+use sota_units::{NoMemory, NodeId, Tick};
 use std::alloc::Global;
 
 /// An arc with more ticks than these within the budget is broad.
@@ -26,46 +32,110 @@ fn pairs_of(time: Option<u64>, need: u32) -> u32
     }
 }
 
+/// The number of pairs of an arc's tail in a region.
+fn pairs_at_tail(region: &AskRegion, arc: &Arc) -> u32
+    requires tail { (1 ≤ arc.now.tail) × (arc.now.tail ≤ length region.now.need) }
+    requires nodes { length region.now.least ≡ length region.now.need }
+    requires needs { All (λ need. need ≤ END_LIMIT) region.now.need }
+    ensures value { result ≡ pairs_by_lists region.now.least region.now.need arc.now.tail }
+    ensures within { result ≤ END_LIMIT }
+{
+    let tail = arc.tail.get() as usize - 1;
+    pairs_of(region.least.as_slice()[tail], region.need.as_slice()[tail])
+}
+
+/// The base of a node by the least times of all.
+fn base_at(least: &[Option<u64>], node: NodeId) -> u32
+    requires { (1 ≤ node) × (node ≤ length least.now) }
+    ensures { result ≡ base_by least.now node }
+{
+    base_of(least[node.get() as usize - 1])
+}
+
+/// Where the entries of a node end that are known.
+fn end_of(tables: &Tables, node: NodeId) -> u32
+    requires { HasNode tables.now node }
+    ensures value { result ≡ known_end (table_at tables.now node) }
+    ensures within { result ≤ END_LIMIT }
+{
+    tables.front(node).max(tables.base(node))
+}
+
+/// The position of the sum that belongs to the first entry that the tail of an open arc lacks.
+fn position_of(tables: &Tables, region: &AskRegion, arc: &Arc) -> u32
+    requires open { is_closed arc.now.time ≡ false }
+    requires tail { HasNode tables.now arc.now.tail }
+    requires head { (1 ≤ arc.now.head) × (arc.now.head ≤ length region.now.least) }
+    ensures { result ≡ first_position tables.now region.now arc.now }
+{
+    let base = base_at(region.least.as_slice(), arc.head);
+    let next = end_of(tables, arc.tail) + 1;
+    next.saturating_sub(base)
+        .saturating_sub(arc.time.least().get())
+}
+
 /// Two summers of an arc where it is broad, with room for as many values as its tail has pairs in
-/// the region, else none.
+/// the region, else none. Their sums are read from the first entry on that the tail lacks.
 fn summers_of<Z: Summer>(
     alloc: Global,
+    tables: &Tables,
+    region: &AskRegion,
     arc: &Arc,
-    pairs: u32,
-    budget: u32,
 ) -> Result<Option<Box<Summers<Z>>>, NoMemory>
-    requires { pairs ≤ END_LIMIT }
-    ensures { IfOk result (λ found.
-        states_of Z.state found ≡ first_sums_by pairs budget arc.now) }
+    requires tail { HasNode tables.now arc.now.tail }
+    requires fronts { length tables.now.fronts ≡ length region.now.need }
+    requires nodes { length region.now.least ≡ length region.now.need }
+    requires needs { All (λ need. need ≤ END_LIMIT) region.now.need }
+    requires head { (1 ≤ arc.now.head) × (arc.now.head ≤ length region.now.least) }
+    ensures { IfOk result (λ found. states_of Z.state found
+        ≡ first_sums_by (pairs_by_lists region.now.least region.now.need arc.now.tail)
+        (first_position tables.now region.now arc.now) region.now.budget arc.now) }
 {
-    if pairs == 0 || arc.time.within(Tick(budget)).len() <= NARROW {
+    let pairs = pairs_at_tail(region, arc);
+    if pairs == 0 || arc.time.within(Tick(region.budget)).len() <= NARROW {
         return Ok(None);
     }
-    let lower = Z::make(alloc, &arc.time, pairs)?;
-    let upper = Z::make(alloc, &arc.time, pairs)?;
+    let start = position_of(tables, region, arc);
+    let lower = Z::make(alloc, &arc.time, pairs, start)?;
+    let upper = Z::make(alloc, &arc.time, pairs, start)?;
     Ok(Some(Box::new(alloc, Summers { lower, upper })?))
 }
 
-/// The summers of all arcs: those of arc `e` stand at index `e - 1`.
+/// How long the kernel of two summers is, 0 where there are none.
+fn places_of<Z: Summer>(found: &Option<Box<Summers<Z>>>) -> u32
+    ensures { result ≡ kernel_places (states_of Z.state found.now) }
+{
+    match found {
+        Some(two) => two.lower.span(),
+        None => 0,
+    }
+}
+
+/// The summers of all arcs, and how long their longest kernel is. Those of arc `e` stand at index
+/// `e - 1`.
 pub(crate) fn make_summers<Z: Summer>(
     alloc: Global,
-    arcs: &[Arc],
+    tables: &Tables,
     region: &AskRegion,
-) -> Result<Vec<Option<Box<Summers<Z>>>>, NoMemory>
-    requires tails { All (λ arc. (1 ≤ arc.tail) × (arc.tail ≤ length region.now.need)) arcs.now }
+    arcs: &[Arc],
+) -> Result<(Vec<Option<Box<Summers<Z>>>>, u32), NoMemory>
+    requires ends { All (λ arc. HasNode tables.now arc.tail × ((1 ≤ arc.head)
+        × (arc.head ≤ length region.now.least))) arcs.now }
+    requires fronts { length tables.now.fronts ≡ length region.now.need }
     requires nodes { length region.now.least ≡ length region.now.need }
     requires needs { All (λ need. need ≤ END_LIMIT) region.now.need }
-    ensures { IfOk result (λ summers. map (states_of Z.state) summers.items
+    ensures sums { IfOk result (λ made. map (states_of Z.state) made.0.items
         ≡ map (λ arc. first_sums_by (pairs_by_lists region.now.least region.now.need arc.tail)
-        region.now.budget arc) arcs.now) }
+        (first_position tables.now region.now arc) region.now.budget arc) arcs.now) }
+    ensures places { IfOk result (λ made. All (FitsIn region.now made.1) arcs.now) }
+    ensures within { IfOk result (λ made. made.1 ≤ END_LIMIT) }
 {
-    let least = region.least.as_slice();
-    let need = region.need.as_slice();
     let mut summers = Vec::with_capacity(alloc, arcs.len())?;
+    let mut places = 0;
     for arc in arcs {
-        let tail = arc.tail.get() as usize - 1;
-        let pairs = pairs_of(least[tail], need[tail]);
-        summers.push(summers_of(alloc, arc, pairs, region.budget)?)?;
+        let made = summers_of(alloc, tables, region, arc)?;
+        places = places_of(&made).max(places);
+        summers.push(made)?;
     }
-    Ok(summers)
+    Ok((summers, places))
 }

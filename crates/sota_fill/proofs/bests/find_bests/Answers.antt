@@ -1,12 +1,12 @@
 -- After k arcs the bests are those of the first k numbers, as far as they are not below the floor.
-use Rattle.std.proofs.Common.{ℕ, ◌≡◌, ◌+◌, ◌*◌, ◌<◌, ◌==◌, slice_index, slice_index_or, List, None, ◌∙◌, arith}
-use Rattle.sota_network.specs.Network.{Net}
+use Rattle.std.proofs.Common.{ℕ, ◌≡◌, ◌+◌, ◌*◌, ◌<◌, ◌==◌, slice_index, slice_index_or, List, None, Some, length, get_or, sym, ap, ◌∙◌, arith}
+use Rattle.sota_network.specs.Network.{Net, arc_at}
 use Rattle.sota_network.specs.Grid.{plain_sum}
 use Rattle.sota_network.specs.declared.network.Arc.{Arc}
 use Rattle.sota_kept.specs.NodeTables.{lower_in, upper_in}
 use Rattle.sota_tables.specs.Views.{TablesView, table_at}
 use Rattle.sota_fill.specs.declared.target.Target.{Target}
-use Rattle.sota_fill.proofs.Among.{worth, out-tail, worth-out, best-end, choice-end}
+use Rattle.sota_network.specs.Among.{AmongLaws, leaving_numbers, numbered_worth}
 use Rattle.sota_fill.proofs.Below.{beaten-lower, beaten-upper}
 use Rattle.sota_fill.proofs.Near.{near-step, near-pass, near-raise, near-end, choice-near-step, choice-near-pass, choice-near-end}
 use Rattle.sota_fill.proofs.bests.find_bests.Goals as goal
@@ -18,23 +18,34 @@ lower_worth target tables from x a = plain_sum a (lower_in target.dest (table_at
 abbrev upper_worth : Target → TablesView → ℕ → ℕ → Arc → ℕ
 upper_worth target tables from x a = plain_sum a (upper_in target.dest (table_at tables)) (from + x)
 
+-- the tail of the arc that a walk over the numbers reads
+out-tail : AmongLaws → (net : Net) (node : ℕ) (es : List ℕ) (k e : ℕ) (arc : Arc) → es ≡ leaving_numbers net node → k < length es → e ≡ get_or es k e → arc_at net e ≡ Some arc → arc.tail ≡ node
+out-tail among net node es k e arc same h is number =
+    let out = among.leaving net node k e es same h is in
+    let both : Some out.0 ≡ Some arc = sym out.1 ∙ number in
+    let found : out.0 ≡ arc = cc in
+    ap (λ (x : Arc). x.tail) (sym found) ∙ out.2
+
 pub add_arc-requires-clause-fed : goal.add_arc-requires-clause-fed
 add_arc-requires-clause-fed g c = λ arc two at is.
     let net : Net = c.args.target.now.network.now in
+    let among : AmongLaws = (c.filling_laws.ensures net c.leaving-number-items.ensures.valid).among in
     let tail : arc.tail ≡ c.args.node =
-    out-tail net c.args.node c.leaving-number-items.result.now c.loop-number.number-index c.number-item.result arc (c.numbers_of_arcs.ensures.only net (λ (a : Arc). a.tail == c.args.node)) c.leaving-number-items.ensures.value c.loop-number-test.true c.number-item.is at in
+    out-tail among net c.args.node c.leaving-number-items.result.now c.loop-number.number-index c.number-item.result arc c.leaving-number-items.ensures.value c.loop-number-test.true c.number-item.is at in
     c.requires.fed c.number-item.result arc two at tail is
 
 pub add_arc-requires-clause-reads : goal.add_arc-requires-clause-reads
 add_arc-requires-clause-reads g c = λ arc at.
     let net : Net = c.args.target.now.network.now in
+    let among : AmongLaws = (c.filling_laws.ensures net c.leaving-number-items.ensures.valid).among in
     let tail : arc.tail ≡ c.args.node =
-    out-tail net c.args.node c.leaving-number-items.result.now c.loop-number.number-index c.number-item.result arc (c.numbers_of_arcs.ensures.only net (λ (a : Arc). a.tail == c.args.node)) c.leaving-number-items.ensures.value c.loop-number-test.true c.number-item.is at in
+    out-tail among net c.args.node c.leaving-number-items.result.now c.loop-number.number-index c.number-item.result arc c.leaving-number-items.ensures.value c.loop-number-test.true c.number-item.is at in
     c.requires.reads c.number-item.result arc at tail
 
 pub loop-number-preserved-then-is_beaten : goal.loop-number-preserved-then-is_beaten
 loop-number-preserved-then-is_beaten g c =
     let net : Net = c.args.target.now.network.now in
+    let among : AmongLaws = (c.filling_laws.ensures net c.leaving-number-items.ensures.valid).among in
     let dest : ℕ = c.args.target.now.dest in
     let es : List ℕ = c.leaving-number-items.result.now in
     let k : ℕ = c.loop-number.number-index in
@@ -45,26 +56,27 @@ loop-number-preserved-then-is_beaten g c =
     let arc : Arc = c.numbered-arc.result.now in
     let laws = c.filling_laws.ensures net c.leaving-number-items.ensures.valid in
     let tail : arc.tail ≡ c.args.node =
-    out-tail net c.args.node es k e arc (c.numbers_of_arcs.ensures.only net (λ (a : Arc). a.tail == c.args.node)) c.leaving-number-items.ensures.value c.loop-number-test.true c.number-item.is c.numbered-arc.ensures.value in
+    out-tail among net c.args.node es k e arc c.leaving-number-items.ensures.value c.loop-number-test.true c.number-item.is c.numbered-arc.ensures.value in
     let reads = c.requires.reads e arc c.numbered-arc.ensures.value tail in
     let beaten = c.is_beaten.ensures c.if-is_beaten.true in
     let lower : (x : ℕ) → x < c.args.count → L x arc < floor = λ x h. beaten-lower net laws dest (table_at c.args.tables.now) arc (c.args.from + c.args.count) c.args.floor (c.args.from + x) c.numbered-arc.ensures.valid reads beaten (omega arith) in
     let upper : (x : ℕ) → x < c.args.count → U x arc < floor = λ x h. beaten-upper net laws dest (table_at c.args.tables.now) arc (c.args.from + c.args.count) c.args.floor (c.args.from + x) c.numbered-arc.ensures.valid reads beaten (omega arith) in
     record {
       lower = λ x h.
-          near-pass floor (worth net (L x)) es k e (slice_index c.loop-number.part.lower x) (L x arc) c.loop-number-test.true c.number-item.is (worth-out net (L x) e arc c.numbered-arc.ensures.value) (lower x h)
+          near-pass among floor (numbered_worth net (L x)) es k e (slice_index c.loop-number.part.lower x) (L x arc) c.loop-number-test.true c.number-item.is (among.number net (L x) e arc c.numbered-arc.ensures.value) (lower x h)
           (c.loop-number.invariant.lower x h);
       upper = λ x h.
-          near-pass floor (worth net (U x)) es k e (slice_index c.loop-number.part.upper x) (U x arc) c.loop-number-test.true c.number-item.is (worth-out net (U x) e arc c.numbered-arc.ensures.value) (upper x h)
+          near-pass among floor (numbered_worth net (U x)) es k e (slice_index c.loop-number.part.upper x) (U x arc) c.loop-number-test.true c.number-item.is (among.number net (U x) e arc c.numbered-arc.ensures.value) (upper x h)
           (c.loop-number.invariant.upper x h);
       choices = λ x h.
-          choice-near-pass floor (worth net (L x)) es k e (L x arc) (slice_index_or c.loop-number.part.choices x None) c.loop-number-test.true c.number-item.is (worth-out net (L x) e arc c.numbered-arc.ensures.value) (lower x h)
+          choice-near-pass among floor (numbered_worth net (L x)) es k e (L x arc) (slice_index_or c.loop-number.part.choices x None) c.loop-number-test.true c.number-item.is (among.number net (L x) e arc c.numbered-arc.ensures.value) (lower x h)
           (c.loop-number.invariant.choices x h);
     }
 
 pub loop-number-preserved : goal.loop-number-preserved
 loop-number-preserved g c =
     let net : Net = c.args.target.now.network.now in
+    let among : AmongLaws = (c.filling_laws.ensures net c.leaving-number-items.ensures.valid).among in
     let es : List ℕ = c.leaving-number-items.result.now in
     let k : ℕ = c.loop-number.number-index in
     let e : ℕ = c.number-item.result in
@@ -75,34 +87,37 @@ loop-number-preserved g c =
     let at = c.numbered-arc.ensures.value in
     record {
       lower = λ x h.
-          near-step floor (worth net (L x)) es k e (slice_index c.loop-number.part.lower x) (L x arc) (slice_index c.add_arc.new.part.lower x) c.loop-number-test.true c.number-item.is (worth-out net (L x) e arc at)
+          near-step among floor (numbered_worth net (L x)) es k e (slice_index c.loop-number.part.lower x) (L x arc) (slice_index c.add_arc.new.part.lower x) c.loop-number-test.true c.number-item.is (among.number net (L x) e arc at)
           (c.add_arc.ensures.lower arc at x h) (c.loop-number.invariant.lower x h);
       upper = λ x h.
-          near-raise floor (worth net (U x)) es k e (slice_index c.loop-number.part.upper x) (U x arc) (slice_index c.add_arc.new.part.upper x) c.loop-number-test.true c.number-item.is (worth-out net (U x) e arc at)
+          near-raise among floor (numbered_worth net (U x)) es k e (slice_index c.loop-number.part.upper x) (U x arc) (slice_index c.add_arc.new.part.upper x) c.loop-number-test.true c.number-item.is (among.number net (U x) e arc at)
           (c.add_arc.ensures.upper arc at x h) (c.loop-number.invariant.upper x h);
       choices = λ x h.
-          choice-near-step floor (worth net (L x)) es k e (slice_index c.loop-number.part.lower x) (L x arc) (slice_index_or c.loop-number.part.choices x None) (slice_index_or c.add_arc.new.part.choices x None) c.loop-number-test.true
-          c.number-item.is (worth-out net (L x) e arc at) (c.loop-number.invariant.lower x h) (c.loop-number.invariant.choices x h) (c.add_arc.ensures.choices arc at x h);
+          choice-near-step among floor (numbered_worth net (L x)) es k e (slice_index c.loop-number.part.lower x) (L x arc) (slice_index_or c.loop-number.part.choices x None) (slice_index_or c.add_arc.new.part.choices x None) c.loop-number-test.true
+          c.number-item.is (among.number net (L x) e arc at) (c.loop-number.invariant.lower x h) (c.loop-number.invariant.choices x h) (c.add_arc.ensures.choices arc at x h);
     }
 
 pub returns-clause-lower : goal.returns-clause-lower
 returns-clause-lower g c = λ x h.
     let net : Net = c.args.target.now.network.now in
+    let among : AmongLaws = (c.filling_laws.ensures net c.leaving-number-items.ensures.valid).among in
     let L = lower_worth c.args.target.now c.args.tables.now c.args.from x in
-    let all = best-end net L c.args.node c.leaving-number-items.result.now c.loop-number.number-index c.leaving-number-items.ensures.value c.loop-number-test.false in
+    let all = among.best_end net L c.args.node c.leaving-number-items.result.now c.loop-number.number-index c.leaving-number-items.ensures.value c.loop-number-test.false in
     near-end (net.scale * c.args.floor) (slice_index c.loop-number.part.lower x) _ (c.loop-number.invariant.lower x h) (omega (arith, all, c.requires.lower_floor x h)) ∙ all
 
 pub returns-clause-upper : goal.returns-clause-upper
 returns-clause-upper g c = λ x h.
     let net : Net = c.args.target.now.network.now in
+    let among : AmongLaws = (c.filling_laws.ensures net c.leaving-number-items.ensures.valid).among in
     let U = upper_worth c.args.target.now c.args.tables.now c.args.from x in
-    let all = best-end net U c.args.node c.leaving-number-items.result.now c.loop-number.number-index c.leaving-number-items.ensures.value c.loop-number-test.false in
+    let all = among.best_end net U c.args.node c.leaving-number-items.result.now c.loop-number.number-index c.leaving-number-items.ensures.value c.loop-number-test.false in
     near-end (net.scale * c.args.floor) (slice_index c.loop-number.part.upper x) _ (c.loop-number.invariant.upper x h) (omega (arith, all, c.requires.upper_floor x h)) ∙ all
 
 pub returns-clause-choices : goal.returns-clause-choices
 returns-clause-choices g c = λ x h.
     let net : Net = c.args.target.now.network.now in
+    let among : AmongLaws = (c.filling_laws.ensures net c.leaving-number-items.ensures.valid).among in
     let L = lower_worth c.args.target.now c.args.tables.now c.args.from x in
-    let all = best-end net L c.args.node c.leaving-number-items.result.now c.loop-number.number-index c.leaving-number-items.ensures.value c.loop-number-test.false in
+    let all = among.best_end net L c.args.node c.leaving-number-items.result.now c.loop-number.number-index c.leaving-number-items.ensures.value c.loop-number-test.false in
     choice-near-end (net.scale * c.args.floor) _ (slice_index_or c.loop-number.part.choices x None) _ (c.loop-number.invariant.choices x h) (omega (arith, all, c.requires.lower_floor x h))
-    ∙ choice-end net L c.args.node c.leaving-number-items.result.now c.loop-number.number-index c.leaving-number-items.ensures.value c.loop-number-test.false
+    ∙ among.choice_end net L c.args.node c.leaving-number-items.result.now c.loop-number.number-index c.leaving-number-items.ensures.value c.loop-number-test.false

@@ -17,7 +17,7 @@ fill_part-requires-clause-unfilled g c =
 pub fill_part-requires-clause-fed : goal.fill_part-requires-clause-fed
 fill_part-requires-clause-fed g c =
     let within : c.loop-budget.budget + c.min-count.result ≤ c.args.to = omega (arith, c.min-count.ensures) in
-    all-fed-less g.Z.Summer.state c.args.target.now.network.now c.args.target.now.dest c.args.node c.args.to (c.loop-budget.budget + c.min-count.result) c.args.broad.now c.requires.fed within
+    all-fed-less g.Z.Summer.state c.args.target.now.network.now c.args.target.now.dest c.args.node c.args.from c.loop-budget.budget c.args.to (c.loop-budget.budget + c.min-count.result) c.args.broad.now c.requires.fed c.loop-budget.invariant.low within
 
 pub loop-budget-preserved : goal.loop-budget-preserved
 loop-budget-preserved g c =

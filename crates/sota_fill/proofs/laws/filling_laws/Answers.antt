@@ -16,6 +16,7 @@ returns c = λ net valid. record {
   choice = λ dest i t off. c.entries_of_reads.ensures.choice net dest i t (lo net dest) valid off (λ j u reads. refl);
   unchosen = λ worth i. c.choices_by_worth.ensures.none net worth i;
   near = λ worth other g i most. c.choices_by_worth.ensures.near net net worth other g i (λ e arc at tail. (e, arc, at, tail, most e arc at));
+  among = c.arcs_one_by_one.ensures;
   sums = c.sums_and_scores.ensures.sums;
   found = λ worth i e is. c.choices_by_worth.ensures.found net worth i e is;
   at_dest = λ dest t. (

@@ -6,10 +6,11 @@ use Rattle.sota_kept.specs.States.{missing_in}
 use Rattle.sota_kept.specs.TableLists.{AreTables, table_of, state_of}
 use Rattle.sota_order.specs.Orders.{OrderView, need_at}
 use Rattle.sota_tables.specs.Views.{table_at, lists_of}
+use Rattle.sota_fill.specs.Fed.{AllFed}
 use Rattle.sota_fill.specs.Fills.{IsLonger}
 use Rattle.sota_plan.specs.Laws.{RegionLaws}
 use Rattle.sota_plan.proofs.Extends.{left_of}
-use Rattle.sota_plan.specs.Runs.{RunView, IsReady, states_of}
+use Rattle.sota_plan.specs.Runs.{RunView, IsReady, HasPlaces, states_of}
 use Rattle.sota_plan.proofs.Stepping.{TableIs}
 use Rattle.sota_plan.proofs.Extending.{going-first, next-is, left-less, going-next, going-met, going-count, left-is, grown-is, tables-new}
 use Rattle.sota_plan.proofs.Extended.{ready-node, ready-tables, ready-lists, ready-agrees, ready-can, ready-sums, least-times}
@@ -38,7 +39,8 @@ feed_extent-requires-clause-can g c =
     let region = c.args.region.now in
     let R : RegionLaws net region = c.region_laws.ensures net region c.requires.valid c.requires.region c.requires.budget in
     let n = next-is net region R c.args.order.now c.loop-extent.order c.args.tables.now c.loop-extent.tables c.args.pushes.now c.loop-extent.pushes c.in-Some.extent c.loop-extent.invariant.going (ap (λ (w : OrderView). w.needs) c.requires.order) c.in-Some.ensures.next in
-    summed-can g.Z.Summer.state net region R.laws R.is R.times R.needs R.none c.args.tables.now c.loop-extent.tables c.loop-extent.broad c.in-Some.extent.node c.in-Some.extent.to c.loop-extent.invariant.sums n.some n.within
+    let fits : HasPlaces net region c.loop-extent.workspace = subst (λ (m : ℕ). HasPlaces net region m) (sym c.loop-extent.invariant.work) c.requires.work in
+    summed-can g.Z.Summer.state net region R.laws R.is R.times R.needs R.none c.loop-extent.workspace c.args.tables.now c.loop-extent.tables c.loop-extent.broad c.in-Some.extent.node c.in-Some.extent.to fits c.loop-extent.invariant.sums n.some n.within
 
 pub fill_extent-requires : goal.fill_extent-requires
 fill_extent-requires g c =
@@ -47,12 +49,15 @@ fill_extent-requires g c =
     let R : RegionLaws net region = c.region_laws.ensures net region c.requires.valid c.requires.region c.requires.budget in
     let n = next-is net region R c.args.order.now c.loop-extent.order c.args.tables.now c.loop-extent.tables c.args.pushes.now c.loop-extent.pushes c.in-Some.extent c.loop-extent.invariant.going (ap (λ (w : OrderView). w.needs) c.requires.order) c.in-Some.ensures.next in
     let were : WereFed g.Z.Summer.state net region R.laws R.is R.times R.needs R.none c.in-Some.extent.node c.in-Some.extent.to c.loop-extent.broad c.feed_extent.new.broad = record { fed = c.feed_extent.ensures.fed; others = c.feed_extent.ensures.others; none = c.feed_extent.ensures.none } in
+    let rise : known_end (table_at c.args.tables.now c.in-Some.extent.node) ≤ known_end (table_at c.loop-extent.tables c.in-Some.extent.node) =
+    grown-rise (need_at c.args.order.now c.in-Some.extent.node) (table_at c.args.tables.now c.in-Some.extent.node) (table_at c.loop-extent.tables c.in-Some.extent.node) (c.loop-extent.invariant.going.grown c.in-Some.extent.node n.unfilled.node) in
     let is = least-times net region c.as_slice.result.now R c.as_slice.ensures in
     record {
       unfilled = n.unfilled;
-      broad = c.feed_extent.ensures.length ∙ c.loop-extent.invariant.same_length ∙ (ready-sums c.views_are_lists.ensures.table net (record { region = region; order = c.args.order.now; sums = map (states_of g.Z.Summer.state) c.args.broad.now }) c.args.tables.now R c.requires g.Z.Summer.state c.args.broad.now refl).1;
+      broad = c.feed_extent.ensures.length ∙ c.loop-extent.invariant.same_length ∙ (ready-sums c.views_are_lists.ensures.table net (record { region = region; order = c.args.order.now; sums = map (states_of g.Z.Summer.state) c.args.broad.now; places = c.args.workspace.now }) c.args.tables.now R c.requires g.Z.Summer.state c.args.broad.now refl).1;
       target = record { nodes = is.0; times = is.1 };
-      fed = fed-all-arcs g.Z.Summer.state net region R.laws R.is R.times R.needs R.none c.args.tables.now c.loop-extent.tables c.loop-extent.broad c.feed_extent.new.broad c.in-Some.extent.node c.in-Some.extent.to c.loop-extent.invariant.sums n.some n.within were;
+      fed = subst (λ (t : ℕ). AllFed g.Z.Summer.state net region.dest c.in-Some.extent.node t c.in-Some.extent.to c.feed_extent.new.broad) (sym n.start)
+          (fed-all-arcs g.Z.Summer.state net region R.laws R.is R.times R.needs R.none c.args.tables.now c.loop-extent.tables c.loop-extent.broad c.feed_extent.new.broad c.in-Some.extent.node c.in-Some.extent.to c.loop-extent.invariant.sums n.some n.within were rise);
     }
 
 pub loop-extent-init : goal.loop-extent-init
@@ -62,10 +67,11 @@ loop-extent-init g c =
     let v = c.args.tables.now in
     let R : RegionLaws net region = c.region_laws.ensures net region c.requires.valid c.requires.region c.requires.budget in
     let table : TableIs = c.views_are_lists.ensures.table in
-    let r : RunView = record { region = region; order = c.args.order.now; sums = map (states_of g.Z.Summer.state) c.args.broad.now } in
+    let r : RunView = record { region = region; order = c.args.order.now; sums = map (states_of g.Z.Summer.state) c.args.broad.now; places = c.args.workspace.now } in
     record {
       going = going-first net region.dest c.args.order.now v c.args.pushes.now (ready-node table net r v R c.requires) (sym (ap (λ (w : OrderView). w.dest) c.requires.order)) (ready-can table net r v R c.requires) (ready-agrees table net r v R c.requires) (ready-tables table net r v R c.requires);
       same_length = refl;
+      work = refl;
       sums = (ready-sums table net r v R c.requires g.Z.Summer.state c.args.broad.now refl).0;
     }
 
@@ -96,6 +102,7 @@ loop-extent-preserved g c =
       going = going-next R.lists net region.dest c.args.order.now c.loop-extent.order c.next_extent.new.self c.args.tables.now c.loop-extent.tables c.fill_extent.new.tables c.args.pushes.now c.loop-extent.pushes c.fill_extent.new.pushes extent
           going c.in-Some.ensures.next c.in-Some.ensures.front c.in-Some.ensures.still c.fill_extent.ensures.ready c.fill_extent.ensures.longer c.fill_extent.ensures.count;
       same_length = c.feed_extent.ensures.length ∙ c.loop-extent.invariant.same_length;
+      work = c.feed_extent.ensures.work ∙ c.loop-extent.invariant.work;
       sums = summed-next g.Z.Summer.state net region R.laws R.is R.times R.needs R.none c.args.tables.now c.loop-extent.tables c.fill_extent.new.tables c.loop-extent.broad c.feed_extent.new.broad extent.node extent.to
           c.loop-extent.invariant.sums n.some n.within were longer rise;
     }
@@ -110,7 +117,7 @@ returns g c =
     let order = c.args.order.now in
     let R : RegionLaws net region = c.region_laws.ensures net region c.requires.valid c.requires.region c.requires.budget in
     let table : TableIs = c.views_are_lists.ensures.table in
-    let r : RunView = record { region = region; order = order; sums = map (states_of g.Z.Summer.state) c.args.broad.now } in
+    let r : RunView = record { region = region; order = order; sums = map (states_of g.Z.Summer.state) c.args.broad.now; places = c.args.workspace.now } in
     let ready : IsReady r v net = c.requires in
     let going = c.loop-extent.invariant.going in
     let needed : (i : ℕ) → need_at order i ≡ slice_index region.need (i - 1) = λ i. ap (λ (w : OrderView). need_at w i) ready.order in

@@ -8,6 +8,7 @@ abbrev pub invariant-loop-extent : goal.invariant-loop-extent
 invariant-loop-extent g l = record {
   going : Going l.network l.region.dest l.fn.order l.order l.fn.tables l.tables l.fn.pushes l.pushes;
   same_length : length l.broad ≡ length l.fn.broad;
+  work : l.workspace ≡ l.fn.workspace;
   sums : AllSummed g.Z.Summer.state l.network l.region l.fn.tables l.tables l.broad;
 }
 

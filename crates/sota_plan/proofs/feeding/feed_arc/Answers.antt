@@ -6,7 +6,7 @@ use Rattle.sota_tables.specs.Views.{table_at}
 use Rattle.sota_fill.specs.declared.broad.Summers.{Summers}
 use Rattle.sota_fill.specs.Fed.{summers_at}
 use Rattle.sota_plan.specs.Summed.{IsSummed, SummedAs, CanFeed, values_below}
-use Rattle.sota_plan.proofs.FedMore.{summers-read, summers-set, summed-more}
+use Rattle.sota_plan.proofs.FedMore.{summers-read, summers-set, summed-more, fits-lent}
 use Rattle.sota_plan.proofs.feeding.feed_arc.Goals as goal
 
 pub feed_both-requires : goal.feed_both-requires
@@ -15,7 +15,7 @@ feed_both-requires g c =
     let arc : Arc = c.numbered-arc.result.now in
     let two = c.in-Some.two.value in
     let found : summers_at c.args.broad.now c.args.number ≡ Some two = summers-read c.args.broad.now c.args.number c.get.result _ c.index-broad-get.result c.in-Some.two c.get.ensures c.requires.number c.requires.broad c.in-Some.is in
-    let can : CanFeed g.Z.Summer.state net c.args.target.now.dest arc c.args.to two = c.requires.can arc two c.numbered-arc.ensures.value found in
+    let can : CanFeed g.Z.Summer.state net c.args.target.now.dest arc c.args.to c.args.workspace.now two = c.requires.can arc two c.numbered-arc.ensures.value found in
     let lent = c.deref_mut.ensures.value in
     let lower : length (g.Z.Summer.state c.deref_mut.result.now.lower).values + (g.Z.Summer.state c.deref_mut.result.now.lower).room ≡ can.total = ap (λ (s : Summers g.row.Z.Denot). length (g.Z.Summer.state s.lower).values + (g.Z.Summer.state s.lower).room) lent ∙ can.is.lower_total in
     let upper : length (g.Z.Summer.state c.deref_mut.result.now.upper).values + (g.Z.Summer.state c.deref_mut.result.now.upper).room ≡ can.total = ap (λ (s : Summers g.row.Z.Denot). length (g.Z.Summer.state s.upper).values + (g.Z.Summer.state s.upper).room) lent ∙ can.is.upper_total in
@@ -27,26 +27,28 @@ feed_both-requires g c =
       known = λ off. c.requires.known arc c.numbered-arc.ensures.value can.is.open_arc off;
       lower_room = omega (arith, lower, can.room, c.base-base.ensures);
       upper_room = omega (arith, upper, can.room, c.base-base.ensures);
+      lower_work = fits-lent (g.Z.Summer.state c.deref_mut.result.now.lower) (g.Z.Summer.state two.lower) can.total c.args.workspace.now arc.time _ _ (ap (λ (s : Summers g.row.Z.Denot). g.Z.Summer.state s.lower) lent) can.is.lower can.is.lower_total can.work;
+      upper_work = fits-lent (g.Z.Summer.state c.deref_mut.result.now.upper) (g.Z.Summer.state two.upper) can.total c.args.workspace.now arc.time _ _ (ap (λ (s : Summers g.row.Z.Denot). g.Z.Summer.state s.upper) lent) can.is.upper can.is.upper_total can.work;
     }
 
 pub returns-in-Some-clause-fed : goal.returns-in-Some-clause-fed
-returns-in-Some-clause-fed g c = λ other count total number summed less.
+returns-in-Some-clause-fed g c = λ other count total start number summed less.
     let net : Net = c.args.target.now.network.now in
     let arc : Arc = c.numbered-arc.result.now in
     let two = c.in-Some.two.value in
     let found : summers_at c.args.broad.now c.args.number ≡ Some two = summers-read c.args.broad.now c.args.number c.get.result _ c.index-broad-get.result c.in-Some.two c.get.ensures c.requires.number c.requires.broad c.in-Some.is in
-    let can : CanFeed g.Z.Summer.state net c.args.target.now.dest arc c.args.to two = c.requires.can arc two c.numbered-arc.ensures.value found in
+    let can : CanFeed g.Z.Summer.state net c.args.target.now.dest arc c.args.to c.args.workspace.now two = c.requires.can arc two c.numbered-arc.ensures.value found in
     let same : arc ≡ other = (let both : Some arc ≡ Some other = sym c.numbered-arc.ensures.value ∙ number in cc) in
     let one : summed.two ≡ two = (let both : Some summed.two ≡ Some two = sym summed.are ∙ found in cc) in
-    let lent : IsSummed g.Z.Summer.state net c.args.target.now.dest arc count total c.deref_mut.result.now =
-    subst (λ (s : Summers g.row.Z.Denot). IsSummed g.Z.Summer.state net c.args.target.now.dest arc count total s) (one ∙ sym c.deref_mut.ensures.value)
-    (subst (λ (a : Arc). IsSummed g.Z.Summer.state net c.args.target.now.dest a count total summed.two) (sym same) summed.is) in
+    let lent : IsSummed g.Z.Summer.state net c.args.target.now.dest arc count total start c.deref_mut.result.now =
+    subst (λ (s : Summers g.row.Z.Denot). IsSummed g.Z.Summer.state net c.args.target.now.dest arc count total start s) (one ∙ sym c.deref_mut.ensures.value)
+    (subst (λ (a : Arc). IsSummed g.Z.Summer.state net c.args.target.now.dest a count total start summed.two) (sym same) summed.is) in
     let fewer : count ≤ values_below net c.args.target.now.dest arc c.args.to = subst (λ (a : Arc). count ≤ values_below net c.args.target.now.dest a c.args.to) (sym same) less in
     let both = c.feed_both.ensures in
-    subst (λ (a : Arc). SummedAs g.Z.Summer.state net c.args.target.now.dest a (values_below net c.args.target.now.dest a c.args.to) total (summers_at (slice_set c.args.broad.now (c.get.result - 1) (Some (with_value c.in-Some.two c.feed_both.new.two))) c.args.number)) same
+    subst (λ (a : Arc). SummedAs g.Z.Summer.state net c.args.target.now.dest a (values_below net c.args.target.now.dest a c.args.to) total start (summers_at (slice_set c.args.broad.now (c.get.result - 1) (Some (with_value c.in-Some.two c.feed_both.new.two))) c.args.number)) same
     (record {
       two = c.feed_both.new.two;
       are = summers-set c.args.broad.now c.args.number c.get.result _ (with_value c.in-Some.two c.feed_both.new.two) c.get.ensures c.requires.number c.requires.broad;
-      is = summed-more g.Z.Summer.state net c.args.target.now.dest arc count total c.args.to c.base-base.result c.deref_mut.result.now c.feed_both.new.two (table_at c.args.tables.now) c.base-base.ensures lent fewer (c.requires.reads arc c.numbered-arc.ensures.value)
-          both.lower both.upper both.lower_count both.upper_count both.lower_total both.upper_total;
+      is = summed-more g.Z.Summer.state net c.args.target.now.dest arc count total start c.args.to c.base-base.result c.deref_mut.result.now c.feed_both.new.two (table_at c.args.tables.now) c.base-base.ensures lent fewer (c.requires.reads arc c.numbered-arc.ensures.value)
+          both.lower both.upper both.lower_count both.upper_count both.lower_same both.upper_same;
     })

@@ -1,6 +1,6 @@
 use Rattle.std.proofs.Common.{ℕ, sym, arith}
 use Rattle.sota_bounds.specs.Search.{time_at}
-use Rattle.sota_kept.specs.Laws.{ListLaws}
+use Rattle.sota_network.specs.Laws.{ListLaws}
 use Rattle.sota_kept.specs.Ticks.{END_LIMIT}
 use Rattle.sota_plan.proofs.Preparing.{needs-within, need-is, needs-all}
 use Rattle.sota_plan.proofs.laws.region_laws.Goals as goal
@@ -8,7 +8,7 @@ use Rattle.sota_plan.proofs.laws.region_laws.Goals as goal
 pub returns : goal.returns
 returns c = λ net region valid is within.
     let dest : ℕ = region.dest in
-    let lists : ListLaws = record { count = c.lists_by_number.ensures.count; entry = c.lists_by_number.ensures.entry; agree = c.lists_by_number.ensures.agree } in
+    let lists : ListLaws = c.lists_by_number.ensures in
     let most = needs-within net region.origin dest region.budget (λ i. c.needs_are_met.ensures.above net region.origin dest region.budget i valid within) in
     let needed = need-is lists net valid region is most in
     record {

@@ -1,6 +1,6 @@
 use Rattle.std.proofs.Common.{◌≡◌, refl}
 use Rattle.sota_network.specs.Network.{Net}
-use Rattle.sota_kept.specs.Laws.{ListLaws}
+use Rattle.sota_network.specs.Laws.{ListLaws}
 use Rattle.sota_kept.specs.TableLists.{table_of}
 use Rattle.sota_order.specs.Orders.{OrderView}
 use Rattle.sota_tables.specs.Views.{lists_of}
@@ -12,7 +12,7 @@ new-requires c =
     let net : Net = c.args.network.now in
     let region = c.args.region.now in
     let v = c.args.tables.now in
-    let laws : ListLaws = record { count = c.lists_by_number.ensures.count; entry = c.lists_by_number.ensures.entry; agree = c.lists_by_number.ensures.agree } in
+    let laws : ListLaws = c.lists_by_number.ensures in
     let within = needs-within net region.origin region.dest region.budget (λ i. c.needs_are_met.ensures.above net region.origin region.dest region.budget i c.requires.valid c.requires.budget) in
     let plain : OrderView = record { dest = region.dest; fronts = v.fronts; bases = v.bases; needs = region.need } in
     let w : OrderView = record { dest = region.dest; fronts = c.fronts-fronts.result.now; bases = c.bases-bases.result.now; needs = c.as_slice.result.now } in
