@@ -12,7 +12,7 @@ use Rattle.sota_network.specs.Grid.{greatest}
 use Rattle.sota_network.specs.Reach.{in_region}
 use Rattle.sota_network.specs.declared.network.Arc.{Arc}
 use Rattle.sota_bounds.specs.Search.{time_at, Joins, IsBeyond, IsFoundBetween}
-use Rattle.sota_bounds.specs.Cells.{need_at, need_by_times, pairs_by_need, pairs_by_lists, table_cells_by_lists, broad_cells_by_lists}
+use Rattle.sota_bounds.specs.Cells.{listed_need, need_by_times, pairs_by_need, pairs_by_lists, table_cells_by_lists, broad_cells_by_lists}
 use Rattle.sota_bounds.specs.Faults.{TABLE_LIMIT, BROAD_LIMIT, cells_fault}
 use Rattle.sota_bounds.specs.declared.search.Direction.TheVariants.{Along}
 use Rattle.sota_bounds.specs.declared.fault.RegionFault.TheVariants.{TableCells, BroadCells}
@@ -131,9 +131,9 @@ module _ (net : Net) (origin dest last : ℕ) (least from : List (Option ℕ)) (
   needs-are = ap (listed (need_by_times dest last least from)) is.nodes ∙ is.agree (need_by_times dest last least from) (need net origin dest last) net.nodes (λ i low high. need-is i (low, high))
 
   module _ (kept : List ℕ) (kept_is : kept ≡ listed (need_by_times dest last least from) (length least)) where
-    kept-at : (i : ℕ) → IsNode net i → need_at kept i ≡ need_by_times dest last least from i
+    kept-at : (i : ℕ) → IsNode net i → listed_need kept i ≡ need_by_times dest last least from i
     kept-at i node =
-        ap (λ (ns : List ℕ). need_at ns i) kept_is ∙ is.entry (need_by_times dest last least from) (length least) i 0 node.0 (omega (arith, node.1, is.nodes))
+        ap (λ (ns : List ℕ). listed_need ns i) kept_is ∙ is.entry (need_by_times dest last least from) (length least) i 0 node.0 (omega (arith, node.1, is.nodes))
 
     pub pairs-is : (i : ℕ) → IsNode net i → pairs_by_lists least kept i ≡ pairs_at net origin dest last i
     pairs-is i node =

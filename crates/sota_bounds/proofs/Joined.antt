@@ -6,7 +6,7 @@ use Rattle.sota_network.specs.Network.{Net, IsNode, IsArc, arc_at}
 use Rattle.sota_network.specs.Numbers.{numbers}
 use Rattle.sota_network.specs.Walks.{Walk, empty, step}
 use Rattle.sota_network.specs.declared.network.Arc.{Arc}
-use Rattle.sota_bounds.specs.Search.{start_of, end_of, IsLeastBetween, Joins, IsBeyond, IsFoundBetween}
+use Rattle.sota_bounds.specs.Search.{source_of, target_of, IsLeastBetween, Joins, IsBeyond, IsFoundBetween}
 use Rattle.sota_bounds.specs.declared.search.Direction.{Direction}
 use Rattle.sota_bounds.specs.declared.search.Direction.TheVariants.{Along, Against}
 
@@ -17,11 +17,11 @@ pub record HasArcs (net : Net) : Type 0 where
   pub every : (test : Arc → Bool) (e : ℕ) (arc : Arc) → arc_at net e ≡ Some arc → test arc ≡ true → Contains (numbers test 1 net.arcs) e
   pub few : (test : Arc → Bool) → length (numbers test 1 net.arcs) ≤ length net.arcs
 
-pub start-valid : (net : Net) (direction : Direction) (arc : Arc) → IsArc net arc → IsNode net (start_of direction arc)
+pub start-valid : (net : Net) (direction : Direction) (arc : Arc) → IsArc net arc → IsNode net (source_of direction arc)
 start-valid net Along arc is = is.tail
 start-valid net Against arc is = is.head
 
-pub end-valid : (net : Net) (direction : Direction) (arc : Arc) → IsArc net arc → IsNode net (end_of direction arc)
+pub end-valid : (net : Net) (direction : Direction) (arc : Arc) → IsArc net arc → IsNode net (target_of direction arc)
 end-valid net Along arc is = is.head
 end-valid net Against arc is = is.tail
 
@@ -44,8 +44,8 @@ lengthened net dest e arc number usable (step {j} {n} f first its_number its_lea
     subst (λ (m : ℕ). Walk net dest first.tail arc.head m) sum
     (step {j = arc.head} {n = n + least_tick arc.time} f first its_number its_leaves its_open (lengthened net dest e arc number usable rest at))
 
-pub joins-step : (net : Net) (dest : ℕ) (direction : Direction) (source e : ℕ) (arc : Arc) (n : ℕ) → arc_at net e ≡ Some arc → IsUsable dest arc → Joins net dest direction source (start_of direction arc) n
-    → Joins net dest direction source (end_of direction arc) (n + least_tick arc.time)
+pub joins-step : (net : Net) (dest : ℕ) (direction : Direction) (source e : ℕ) (arc : Arc) (n : ℕ) → arc_at net e ≡ Some arc → IsUsable dest arc → Joins net dest direction source (source_of direction arc) n
+    → Joins net dest direction source (target_of direction arc) (n + least_tick arc.time)
 joins-step net dest Along source e arc n number usable walk = lengthened net dest e arc number usable walk refl
 joins-step net dest Against source e arc n number usable walk =
     let sum : least_tick arc.time + n ≡ n + least_tick arc.time = omega arith in
@@ -54,8 +54,8 @@ joins-step net dest Against source e arc n number usable walk =
 -- what holds at the source, and is kept over each arc, holds along all these walks
 module _ (net : Net) (dest : ℕ) (direction : Direction) (source : ℕ) (P : ℕ → ℕ → Type 0) where
   abbrev pub Keeps : Type 0
-  Keeps = (e : ℕ) (arc : Arc) (n : ℕ) → arc_at net e ≡ Some arc → IsUsable dest arc → Joins net dest direction source (start_of direction arc) n
-      → P (start_of direction arc) n → P (end_of direction arc) (n + least_tick arc.time)
+  Keeps = (e : ℕ) (arc : Arc) (n : ℕ) → arc_at net e ≡ Some arc → IsUsable dest arc → Joins net dest direction source (source_of direction arc) n
+      → P (source_of direction arc) n → P (target_of direction arc) (n + least_tick arc.time)
 
 against : (net : Net) (dest : ℕ) (P : ℕ → ℕ → Type 0) {i source n : ℕ} → Keeps net dest Against source P → P source 0 → Walk net dest i source n → P i n
 against net dest P keeps first empty = first

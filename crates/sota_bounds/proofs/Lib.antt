@@ -3,7 +3,7 @@ pub mod Settling
 pub mod Settled
 pub mod Queued
 pub mod Earliest
-pub mod Spans
 pub mod Adding
 pub mod Counted
 pub mod Missing
+mod Leaving

@@ -11,7 +11,7 @@ use Rattle.sota_network.specs.Grid.{greatest}
 use Rattle.sota_network.specs.Walks.{IsLeastTime}
 use Rattle.sota_network.specs.Reach.{in_region}
 use Rattle.sota_network.specs.Region.{need, pairs_at, table_cells, budgets, pairs_between, need_between, HasLeastTimes}
-use Rattle.sota_kept.specs.Laws.{ListLaws}
+use Rattle.sota_network.specs.Laws.{ListLaws}
 use Rattle.sota_kept.specs.Ticks.{END_LIMIT, least_to, up_to}
 use Rattle.sota_kept.specs.States.{State, KEPT_LIMIT, front_of, base_of, end_at, is_dest, started_state, based_state, least_base, cells_kept, limited_state, prepared_state, grown_state, missing_in, missing}
 

@@ -13,7 +13,7 @@ use Rattle.sota_hist.specs.Time.{is_closed, least_tick}
 use Rattle.sota_network.specs.Network.{Net, IsNode, arc_at}
 use Rattle.sota_network.specs.declared.network.Arc.{Arc}
 use Rattle.sota_units.specs.Limits.{TICK_LIMIT}
-use Rattle.sota_bounds.specs.Search.{start_of, end_of, arcs_at, time_at, further, next_visit, next_visits, Joins}
+use Rattle.sota_bounds.specs.Search.{source_of, target_of, arcs_at, time_at, further, next_visit, next_visits, Joins}
 use Rattle.sota_bounds.specs.declared.search.Direction.{Direction}
 use Rattle.sota_bounds.specs.declared.search.Visit.{Visit}
 use Rattle.sota_bounds.proofs.Queued.{filter_map-all, filter_map-has, filter_map-short}
@@ -30,37 +30,37 @@ or-false false b is = (refl, is)
 
 next-read : (direction : Direction) (dest : ℕ) (visit : Visit) (times : List (Option ℕ)) (arc : Arc) (w : Visit) → next_visit direction dest visit times arc ≡ Some w → IsUsable dest arc × (further direction visit arc ≡ w)
 next-read direction dest visit times arc w is =
-    let done = is_some (time_at times (end_of direction arc)) in
+    let done = is_some (time_at times (target_of direction arc)) in
     let parts = unless ((arc.tail == dest) || (is_closed arc.time || done)) (further direction visit arc) w is in
     let apart = or-false (arc.tail == dest) (is_closed arc.time || done) parts.0 in
     ((eqb-false arc.tail dest apart.0, (or-false (is_closed arc.time) done apart.1).0), parts.1)
 
-next-here : (direction : Direction) (dest : ℕ) (visit : Visit) (times : List (Option ℕ)) (arc : Arc) → IsUsable dest arc → time_at times (end_of direction arc) ≡ None
+next-here : (direction : Direction) (dest : ℕ) (visit : Visit) (times : List (Option ℕ)) (arc : Arc) → IsUsable dest arc → time_at times (target_of direction arc) ≡ None
     → next_visit direction dest visit times arc ≡ Some (further direction visit arc)
 next-here direction dest visit times arc usable never = rw (ne_eqb arc.tail dest usable.0, usable.1, never) refl
 
 module _ (net : Net) (arcs : HasArcs net) (dest : ℕ) (direction : Direction) (source : ℕ) (visit : Visit) (times : List (Option ℕ)) where
   -- the visits that are queued come from walks
-  queued-one : (e : ℕ) (w : Visit) → Joins net dest direction source visit.node visit.time.0 → (arc : Arc) → arc_at net e ≡ Some arc → start_of direction arc ≡ visit.node
+  queued-one : (e : ℕ) (w : Visit) → Joins net dest direction source visit.node visit.time.0 → (arc : Arc) → arc_at net e ≡ Some arc → source_of direction arc ≡ visit.node
       → option_and_then (next_visit direction dest visit times) (arc_at net e) ≡ Some w → IsNode net w.node × Joins net dest direction source w.node w.time.0
   queued-one e w walk arc number start is =
       let parts = next-read direction dest visit times arc w (sym (ap (option_and_then (next_visit direction dest visit times)) number) ∙ is) in
-      let from_start : Joins net dest direction source (start_of direction arc) visit.time.0 = rw start walk in
+      let from_start : Joins net dest direction source (source_of direction arc) visit.time.0 = rw start walk in
       subst (λ (v : Visit). IsNode net v.node × Joins net dest direction source v.node v.time.0) parts.1
       (end-valid net direction arc (arcs.valid e arc number), joins-step net dest direction source e arc visit.time.0 number parts.0 from_start)
 
   pub queued-all : Joins net dest direction source visit.node visit.time.0 → All (λ (w : Visit). IsNode net w.node × Joins net dest direction source w.node w.time.0) (next_visits net direction dest visit times)
   queued-all walk =
-      filter_map-all (λ (e : ℕ). (arc : Arc) × (arc_at net e ≡ Some arc) × ((start_of direction arc == visit.node) ≡ true)) (λ (w : Visit). IsNode net w.node × Joins net dest direction source w.node w.time.0)
-      (λ e. option_and_then (next_visit direction dest visit times) (arc_at net e)) (arcs_at direction net visit.node) (arcs.only (λ arc. start_of direction arc == visit.node))
-      (λ e w out is. queued-one e w walk out.0 out.1 (eqb-true (start_of direction out.0) visit.node out.2) is)
+      filter_map-all (λ (e : ℕ). (arc : Arc) × (arc_at net e ≡ Some arc) × ((source_of direction arc == visit.node) ≡ true)) (λ (w : Visit). IsNode net w.node × Joins net dest direction source w.node w.time.0)
+      (λ e. option_and_then (next_visit direction dest visit times) (arc_at net e)) (arcs_at direction net visit.node) (arcs.only (λ arc. source_of direction arc == visit.node))
+      (λ e w out is. queued-one e w walk out.0 out.1 (eqb-true (source_of direction out.0) visit.node out.2) is)
 
   -- each arc at the node leads to what is settled, or to one of them
-  pub queued-has : (e : ℕ) (arc : Arc) → arc_at net e ≡ Some arc → IsUsable dest arc → start_of direction arc ≡ visit.node → time_at times (end_of direction arc) ≡ None
+  pub queued-has : (e : ℕ) (arc : Arc) → arc_at net e ≡ Some arc → IsUsable dest arc → source_of direction arc ≡ visit.node → time_at times (target_of direction arc) ≡ None
       → Contains (next_visits net direction dest visit times) (further direction visit arc)
   queued-has e arc number usable start never =
       filter_map-has (λ n. option_and_then (next_visit direction dest visit times) (arc_at net n)) (arcs_at direction net visit.node) e (further direction visit arc)
-      (arcs.every (λ a. start_of direction a == visit.node) e arc number (eq-eqb (start_of direction arc) visit.node start))
+      (arcs.every (λ a. source_of direction a == visit.node) e arc number (eq-eqb (source_of direction arc) visit.node start))
       (ap (option_and_then (next_visit direction dest visit times)) number ∙ next-here direction dest visit times arc usable never)
 
 -- what a settled node has at its end, or nothing
@@ -163,17 +163,17 @@ module _ (net : Net) (arcs : HasArcs net) (dest : ℕ) (direction : Direction) (
       (λ (apart : i ≡ visit.node → ⊥). omega (arith, is.few i n node (sym (elsewhere i node apart) ∙ at), one-more))
       (cases_eq i visit.node)
 
-  new-closed : (e : ℕ) (arc : Arc) (n : ℕ) → arc_at net e ≡ Some arc → IsUsable dest arc → time_at new_times (start_of direction arc) ≡ Some n
-      → IsSettled new_times (end_of direction arc) ⊎ Waits queue (end_of direction arc) (n + least_tick arc.time)
+  new-closed : (e : ℕ) (arc : Arc) (n : ℕ) → arc_at net e ≡ Some arc → IsUsable dest arc → time_at new_times (source_of direction arc) ≡ Some n
+      → IsSettled new_times (target_of direction arc) ⊎ Waits queue (target_of direction arc) (n + least_tick arc.time)
   new-closed e arc n number usable at =
-      let start_node : IsNode net (start_of direction arc) = start-valid net direction arc (arcs.valid e arc number) in
-      let end_node : IsNode net (end_of direction arc) = end-valid net direction arc (arcs.valid e arc number) in
+      let start_node : IsNode net (source_of direction arc) = start-valid net direction arc (arcs.valid e arc number) in
+      let end_node : IsNode net (target_of direction arc) = end-valid net direction arc (arcs.valid e arc number) in
       ⊎_elim
-      (λ (same : start_of direction arc ≡ visit.node).
+      (λ (same : source_of direction arc ≡ visit.node).
       let time : visit.time.0 ≡ n = some-same visit.time.0 n (sym here ∙ ap (time_at new_times) (sym same) ∙ at) in
       ⊎_elim
-      (λ (done : IsSettled new_times (end_of direction arc)). inl done)
-      (λ (never : time_at new_times (end_of direction arc) ≡ None).
+      (λ (done : IsSettled new_times (target_of direction arc)). inl done)
+      (λ (never : time_at new_times (target_of direction arc) ≡ None).
       let has : Contains (next_visits net direction dest visit new_times) (further direction visit arc) = queued-has net arcs dest direction source visit new_times e arc number usable same never in
       inr (
         further direction visit arc,
@@ -182,10 +182,10 @@ module _ (net : Net) (arcs : HasArcs net) (dest : ℕ) (direction : Direction) (
         refl,
         ap (λ (m : ℕ). m + least_tick arc.time) time,
       ))
-      (end-cases new_times (end_of direction arc) (time_at new_times (end_of direction arc)) refl))
-      (λ (apart : start_of direction arc ≡ visit.node → ⊥).
-      goes-on (end_of direction arc) (n + least_tick arc.time) end_node (is.closed e arc n number usable (sym (elsewhere (start_of direction arc) start_node apart) ∙ at)))
-      (cases_eq (start_of direction arc) visit.node)
+      (end-cases new_times (target_of direction arc) (time_at new_times (target_of direction arc)) refl))
+      (λ (apart : source_of direction arc ≡ visit.node → ⊥).
+      goes-on (target_of direction arc) (n + least_tick arc.time) end_node (is.closed e arc n number usable (sym (elsewhere (source_of direction arc) start_node apart) ∙ at)))
+      (cases_eq (source_of direction arc) visit.node)
 
   pub settle : IsSearch net dest direction source new_times queue
   settle = record {
@@ -205,6 +205,6 @@ module _ (net : Net) (arcs : HasArcs net) (dest : ℕ) (direction : Direction) (
       let parts : length (rest ++ next_visits net direction dest visit new_times) ≡ length rest + length (next_visits net direction dest visit new_times) = length-append rest (next_visits net direction dest visit new_times) in
       let short : length (next_visits net direction dest visit new_times) ≤ length (arcs_at direction net visit.node) =
       filter_map-short (λ e. option_and_then (next_visit direction dest visit new_times) (arc_at net e)) (arcs_at direction net visit.node) in
-      let few : length (arcs_at direction net visit.node) ≤ length net.arcs = arcs.few (λ arc. start_of direction arc == visit.node) in
+      let few : length (arcs_at direction net visit.node) ≤ length net.arcs = arcs.few (λ arc. source_of direction arc == visit.node) in
       let before : suc (length rest) ≡ length old = length_permutation old (visit ∷ rest) step.moved in
       falls (length times) (settled times) (length net.arcs) (length new_times) (settled new_times) (length queue) (length old) same-count one-more (omega arith) (omega arith)

@@ -13,7 +13,7 @@ use Rattle.sota_hist.specs.Time.{least_tick}
 use Rattle.sota_network.specs.Network.{Net, IsNode, arc_at}
 use Rattle.sota_network.specs.declared.network.Arc.{Arc}
 use Rattle.sota_units.specs.Limits.{NODE_LIMIT, TICK_LIMIT}
-use Rattle.sota_bounds.specs.Search.{start_of, end_of, time_at, Joins, IsBeyond, IsFoundBetween, TIME_LIMIT}
+use Rattle.sota_bounds.specs.Search.{source_of, target_of, time_at, Joins, IsBeyond, IsFoundBetween, TIME_LIMIT}
 use Rattle.sota_bounds.specs.declared.search.Direction.{Direction}
 use Rattle.sota_bounds.specs.declared.search.Visit.{Visit}
 use Rattle.sota_bounds.proofs.Queued.{in-cons}
@@ -45,8 +45,8 @@ pub record IsSearch (net : Net) (dest : ℕ) (direction : Direction) (source : �
   pub least : (i n : ℕ) → IsNode net i → time_at times i ≡ Some n → IsLeastJoin net dest direction source i n
   pub few : (i n : ℕ) → IsNode net i → time_at times i ≡ Some n → n ≤ settled times * TICK_LIMIT
   pub first : IsSettled times source ⊎ Waits queue source 0
-  pub closed : (e : ℕ) (arc : Arc) (n : ℕ) → arc_at net e ≡ Some arc → IsUsable dest arc → time_at times (start_of direction arc) ≡ Some n
-      → IsSettled times (end_of direction arc) ⊎ Waits queue (end_of direction arc) (n + least_tick arc.time)
+  pub closed : (e : ℕ) (arc : Arc) (n : ℕ) → arc_at net e ≡ Some arc → IsUsable dest arc → time_at times (source_of direction arc) ≡ Some n
+      → IsSettled times (target_of direction arc) ⊎ Waits queue (target_of direction arc) (n + least_tick arc.time)
 
 -- ---- one time more
 pub settled-here : (times : List (Option ℕ)) (i t : ℕ) → i - 1 < length times → time_at (set times (i - 1) (Some t)) i ≡ Some t
@@ -127,18 +127,18 @@ module _ (net : Net) (arcs : HasArcs net) (dest : ℕ) (direction : Direction) (
           is.first,
     )
 
-    reached-kept : (e : ℕ) (arc : Arc) (n : ℕ) → arc_at net e ≡ Some arc → IsUsable dest arc → Joins net dest direction source (start_of direction arc) n
-        → Reached times queue (start_of direction arc) n → Reached times queue (end_of direction arc) (n + least_tick arc.time)
+    reached-kept : (e : ℕ) (arc : Arc) (n : ℕ) → arc_at net e ≡ Some arc → IsUsable dest arc → Joins net dest direction source (source_of direction arc) n
+        → Reached times queue (source_of direction arc) n → Reached times queue (target_of direction arc) (n + least_tick arc.time)
     reached-kept e arc n number usable walk here =
-        let node : IsNode net (end_of direction arc) = end-valid net direction arc (arcs.valid e arc number) in
-        let longer : Joins net dest direction source (end_of direction arc) (n + least_tick arc.time) = joins-step net dest direction source e arc n number usable walk in (
+        let node : IsNode net (target_of direction arc) = end-valid net direction arc (arcs.valid e arc number) in
+        let longer : Joins net dest direction source (target_of direction arc) (n + least_tick arc.time) = joins-step net dest direction source e arc n number usable walk in (
           node,
           ⊎_elim
-              (λ (done : (m : ℕ) × (time_at times (start_of direction arc) ≡ Some m) × (m ≤ n)).
+              (λ (done : (m : ℕ) × (time_at times (source_of direction arc) ≡ Some m) × (m ≤ n)).
               ⊎_elim
-              (λ (end_done : IsSettled times (end_of direction arc)). inl (settled-soon (end_of direction arc) (n + least_tick arc.time) node longer end_done))
-              (λ (waits : Waits queue (end_of direction arc) (done.0 + least_tick arc.time)).
-              inr (waits-soon (end_of direction arc) (done.0 + least_tick arc.time) (n + least_tick arc.time) (let z : done.0 + least_tick arc.time ≤ n + least_tick arc.time = omega (arith, done.2) in z) waits))
+              (λ (end_done : IsSettled times (target_of direction arc)). inl (settled-soon (target_of direction arc) (n + least_tick arc.time) node longer end_done))
+              (λ (waits : Waits queue (target_of direction arc) (done.0 + least_tick arc.time)).
+              inr (waits-soon (target_of direction arc) (done.0 + least_tick arc.time) (n + least_tick arc.time) (let z : done.0 + least_tick arc.time ≤ n + least_tick arc.time = omega (arith, done.2) in z) waits))
               (is.closed e arc done.0 number usable done.1))
               (λ (early : (visit : Visit) × Contains queue visit × (visit.time.0 ≤ n)).
               inr (early.0, early.1, (let z : early.0.time.0 ≤ n + least_tick arc.time = omega (arith, early.2) in z)))
@@ -187,7 +187,7 @@ module _ (net : Net) (arcs : HasArcs net) (dest : ℕ) (direction : Direction) (
           few = is.few;
           first = ⊎_elim (λ (s : IsSettled times source). inl s) (λ (w : Waits queue source 0). goes_on source 0 w) is.first;
           closed = λ e arc n number usable here.
-              ⊎_elim (λ (s : IsSettled times (end_of direction arc)). inl s) (λ (w : Waits queue (end_of direction arc) (n + least_tick arc.time)). goes_on (end_of direction arc) (n + least_tick arc.time) w)
+              ⊎_elim (λ (s : IsSettled times (target_of direction arc)). inl s) (λ (w : Waits queue (target_of direction arc) (n + least_tick arc.time)). goes_on (target_of direction arc) (n + least_tick arc.time) w)
               (is.closed e arc n number usable here);
         }
 
@@ -206,7 +206,7 @@ module _ (net : Net) (arcs : HasArcs net) (dest : ℕ) (direction : Direction) (
         least = λ i n node here. absurd (unsettled i n node here);
         few = λ i n node here. absurd (unsettled i n node here);
         first = inr (visit, Contains-permutation (visit ∷ []) queue visit moved (Contains-push [] visit), at, time);
-        closed = λ e arc n number usable here. absurd (unsettled (start_of direction arc) n (start-valid net direction arc (arcs.valid e arc number)) here);
+        closed = λ e arc n number usable here. absurd (unsettled (source_of direction arc) n (start-valid net direction arc (arcs.valid e arc number)) here);
       }
 
 -- ---- the settled times have a bound, since there are few nodes

@@ -16,18 +16,18 @@ use Rattle.sota_bounds.specs.declared.search.Direction.TheVariants.{Along, Again
 use Rattle.sota_bounds.specs.declared.search.Visit.{Visit}
 
 -- a search goes over an arc from this end
-abbrev pub start_of : Direction → Arc → ℕ
-start_of Along arc = arc.tail
-start_of Against arc = arc.head
+abbrev pub source_of : Direction → Arc → ℕ
+source_of Along arc = arc.tail
+source_of Against arc = arc.head
 
 -- to this end
-abbrev pub end_of : Direction → Arc → ℕ
-end_of Along arc = arc.head
-end_of Against arc = arc.tail
+abbrev pub target_of : Direction → Arc → ℕ
+target_of Along arc = arc.head
+target_of Against arc = arc.tail
 
 -- the arcs over which a search leaves a node
 abbrev pub arcs_at : Direction → Net → ℕ → List ℕ
-arcs_at direction net node = numbers (λ arc. start_of direction arc == node) 1 net.arcs
+arcs_at direction net node = numbers (λ arc. source_of direction arc == node) 1 net.arcs
 
 -- the time that is settled for node i
 abbrev pub time_at : List (Option ℕ) → ℕ → Option ℕ
@@ -41,13 +41,17 @@ TIME_LIMIT = NODE_LIMIT * TICK_LIMIT
 -- the visit one arc further
 abbrev pub further : Direction → Visit → Arc → Visit
 further direction visit arc =
-    record { time = record { 0 = visit.time.0 + least_tick arc.time }; node = end_of direction arc }
+    record {
+      time = record { 0 = visit.time.0 + least_tick arc.time };
+      node = target_of direction arc;
+    }
 
 -- the visit to which a settled one leads over an arc: none where the arc leaves the destination or
 -- is closed, or its end is settled
 abbrev pub next_visit : Direction → ℕ → Visit → List (Option ℕ) → Arc → Option Visit
 next_visit direction dest visit times arc =
-    if (arc.tail == dest) || (is_closed arc.time || is_some (time_at times (end_of direction arc)))
+    if (arc.tail == dest)
+    || (is_closed arc.time || is_some (time_at times (target_of direction arc)))
     then None else Some (further direction visit arc)
 
 -- those over all arcs at its node

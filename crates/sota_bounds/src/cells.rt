@@ -1,21 +1,18 @@
 // The needs and cells of a region, out of its least times.
 ghost use Rattle.std.specs.Prelude.{ℕ, ◌≡◌, ◌+◌, ◌*◌, ◌≤◌, length, IfOk};
 ghost use Rattle.std.specs.List.{All};
-ghost use Rattle.sota_units.specs.Limits.{NODE_LIMIT, BUDGET_LIMIT};
-ghost use Rattle.sota_hist.specs.Time.{IsTime};
+ghost use Rattle.sota_units.specs.Limits.{NODE_LIMIT, ARC_LIMIT, BUDGET_LIMIT};
+ghost use Rattle.sota_network.specs.Network.{IsNode};
 ghost use Rattle.sota_network.specs.Numbers.{listed};
-ghost use Rattle.sota_network.specs.Region.{need_between, broad_at};
+ghost use Rattle.sota_network.specs.Region.{need_between};
 ghost use Rattle.sota_bounds.specs.Cells.{need_by_times, pairs_by_need};
 ghost use Rattle.sota_bounds.specs.Cells.{table_cells_by_lists, broad_cells_by_lists};
+ghost use Rattle.sota_bounds.specs.Cells.{broad_cells_at};
 
-use sota_hist::laws::times_rise;
-use sota_network::laws::lists_by_number;
-use sota_network::{Arc, Network};
-use sota_units::{NoMemory, NodeId, Tick};
+use sota_network::laws::{lists_by_number, numbers_of_arcs};
+use sota_network::{Network, broad_at};
+use sota_units::{NoMemory, NodeId};
 use std::alloc::Global;
-
-/// An arc with more pairs than these within the budget is broad.
-const NARROW: usize = 32;
 
 /// The need of each of so many nodes.
 pub(crate) fn needs_of(
@@ -84,7 +81,7 @@ pub(crate) fn table_cells_of(least: &[Option<u64>], needs: &[u32]) -> u64
     cells
 }
 
-/// What all arcs add to the broad cells.
+/// What all arcs add to the broad cells. Of a node without a pair no arc is looked at.
 pub(crate) fn broad_cells_of(
     network: &Network,
     least: &[Option<u64>],
@@ -97,30 +94,32 @@ pub(crate) fn broad_cells_of(
     requires within { All (λ need. need ≤ BUDGET_LIMIT + 1) needs.now }
     ensures { result ≡ broad_cells_by_lists budget least.now needs.now network.now.arcs }
 {
+    // A check knows that there are not too many arcs once they are counted.
+    prove!(network.arc_count() <= 4_000_000);
     let mut cells = 0;
-    for arc in network.arcs() {
-        let index = arc.tail.get() as usize - 1;
-        cells += broad_at(arc, pairs_of(least[index], needs[index]), budget);
+    for index in 0..network.nodes() {
+        let pairs = pairs_of(least[index as usize], needs[index as usize]);
+        cells += broad_cells_at(network, NodeId(index + 1), pairs, budget);
     }
     cells
 }
 
-/// What an arc with so many pairs at its tail adds to the broad cells.
-fn broad_at(arc: &Arc, pairs: u64, budget: u32) -> u64
-    requires time { IsTime arc.now.time }
+/// What the arcs that leave a node with so many pairs add to the broad cells.
+fn broad_cells_at(network: &Network, node: NodeId, pairs: u64, budget: u32) -> u64
+    requires node { IsNode network.now node }
     requires budget { budget ≤ BUDGET_LIMIT }
     requires pairs { pairs ≤ BUDGET_LIMIT + 1 }
-    ensures value { result ≡ broad_at budget pairs arc.now }
-    ensures within { result ≤ 2 * (BUDGET_LIMIT + 1) }
+    requires arcs { length network.now.arcs ≤ ARC_LIMIT }
+    ensures value { result ≡ broad_cells_at budget pairs node network.now.arcs }
+    ensures within { result ≤ 2 * (BUDGET_LIMIT + 1) * ARC_LIMIT }
 {
-    times_rise();
+    numbers_of_arcs();
     if pairs == 0 {
         return 0;
     }
-    let within = arc.time.within(Tick(budget));
-    if within.len() <= NARROW {
-        return 0;
+    let mut cells = 0;
+    for number in network.leaving(node) {
+        cells += broad_at(network.numbered(*number), pairs, budget);
     }
-    let span = within[within.len() - 1].0.get() - within[0].0.get() + 1;
-    pairs + u64::from(span)
+    cells
 }

@@ -6,7 +6,7 @@ ghost use Rattle.std.specs.List.Sorted.{IsPermutation};
 ghost use Rattle.std.specs.BinaryHeap.{heap_items, IsHeap};
 ghost use Rattle.sota_units.specs.Limits.{NODE_LIMIT, TICK_LIMIT};
 ghost use Rattle.sota_network.specs.Network.{IsNode};
-ghost use Rattle.sota_bounds.specs.Search.{end_of, arcs_at, time_at, next_visit, next_visits};
+ghost use Rattle.sota_bounds.specs.Search.{target_of, arcs_at, time_at, next_visit, next_visits};
 ghost use Rattle.sota_bounds.specs.Search.{by_time, IsLeastBetween, IsBeyond, IsFoundBetween};
 ghost use Rattle.sota_bounds.specs.Search.{TIME_LIMIT};
 
@@ -151,8 +151,8 @@ impl Direction {
     }
 
     /// The end of an arc to which a search goes over it.
-    fn end_of(self, arc: &Arc) -> NodeId
-        ensures { result ≡ end_of self arc.now }
+    fn target_of(self, arc: &Arc) -> NodeId
+        ensures { result ≡ target_of self arc.now }
     {
         match self {
             Direction::Along => arc.head,
@@ -169,12 +169,12 @@ impl Direction {
         visit: &Visit,
         times: &[Option<u64>],
     ) -> Option<Visit>
-        requires end { (1 ≤ end_of self arc.now) × (end_of self arc.now ≤ length times.now) }
+        requires end { (1 ≤ target_of self arc.now) × (target_of self arc.now ≤ length times.now) }
         requires time { visit.now.time.0 < 2 ^ 63 }
         ensures value { result ≡ next_visit self dest visit.now times.now arc.now }
         ensures soon { IfSome result (λ next. next.time.0 ≤ visit.now.time.0 + TICK_LIMIT) }
     {
-        let node = self.end_of(arc);
+        let node = self.target_of(arc);
         if arc.tail == dest || arc.time.is_closed() || times[node.get() as usize - 1].is_some() {
             return None;
         }

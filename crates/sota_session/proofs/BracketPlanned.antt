@@ -11,10 +11,10 @@ use Rattle.sota_network.specs.Reach.{in_region}
 use Rattle.sota_network.specs.Region.{HasLeastTimes, is_between}
 use Rattle.sota_kept.specs.Ticks.{END_LIMIT, up_to}
 use Rattle.sota_polfile.specs.Table.{entry_from}
-use Rattle.sota_polfile.specs.Bracket.{row_of, bracket_entry_of}
+use Rattle.sota_polfile.specs.Bracket.{bracket_row_of, bracket_entry_of}
 use Rattle.sota_polfile.specs.declared.bracket_entry.BracketEntry.{BracketEntry}
 use Rattle.sota_polfile.specs.declared.bracket_row.BracketRow.{BracketRow}
-use Rattle.sota_check.specs.PlannedBracket.{grid_bracket, first_budget, IsPlannedBracket}
+use Rattle.sota_check.specs.PlannedBracket.{grid_bracket, first_budget_by, IsPlannedBracket}
 use Rattle.sota_session.specs.Brackets.{bracket_row, plan_bracket}
 use Rattle.sota_session.specs.declared.ask.Ask.{Ask}
 use Rattle.sota_session.proofs.Bracketing.{HasTimes, count, first, first-is, count-is}
@@ -34,7 +34,7 @@ listed-at f a n k less =
 listed-past : {X : Type 0} (f : ℕ → X) (a n k : ℕ) → n ≤ k → slice_get (map f (range_with_len a n)) k ≡ None
 listed-past f a n k past = slice_get_past (map f (range_with_len a n)) k (omega (arith, past, length-map-range_with_len f a n))
 
-same-first : (time : Option ℕ) → up_to END_LIMIT time ≡ first_budget time
+same-first : (time : Option ℕ) → up_to END_LIMIT time ≡ first_budget_by time
 same-first None = refl
 same-first (Some n) = refl
 
@@ -69,7 +69,7 @@ module _ (net : Net) (ask : Ask) (laws : HasTimes net ask)
   abbrev region : ℕ → ℕ → Bool
   region i t = in_region net ask.origin ask.dest ask.budget i t
 
-  table-row : (i : ℕ) → IsNode net i → row_of (plan_bracket net ask) i ≡ Some (bracket_row net ask i)
+  table-row : (i : ℕ) → IsNode net i → bracket_row_of (plan_bracket net ask) i ≡ Some (bracket_row net ask i)
   unfolding plan_bracket
   table-row zero node = absurd (omega (arith, node.0))
   table-row (suc k) node =
@@ -77,7 +77,7 @@ module _ (net : Net) (ask : Ask) (laws : HasTimes net ask)
       let at : 1 + k ≡ suc k = omega arith in
       listed-at (bracket_row net ask) 1 net.nodes k less ∙ ap (λ (i : ℕ). Some (bracket_row net ask i)) at
 
-  no-row : (i : ℕ) → (IsNode net i → ⊥) → row_of (plan_bracket net ask) i ≡ None
+  no-row : (i : ℕ) → (IsNode net i → ⊥) → bracket_row_of (plan_bracket net ask) i ≡ None
   unfolding plan_bracket
   no-row zero none = refl
   no-row (suc k) none =

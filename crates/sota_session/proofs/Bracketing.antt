@@ -9,7 +9,7 @@ use Rattle.sota_network.specs.Walks.{IsLeast, IsLeastTime, empty}
 use Rattle.sota_network.specs.Region.{pairs_at, pairs_between, HasLeastTimes}
 use Rattle.sota_kept.specs.Ticks.{END_LIMIT, least_to, up_to}
 use Rattle.sota_bounds.specs.Search.{time_at}
-use Rattle.sota_bounds.specs.Cells.{need_at, pairs_by_need}
+use Rattle.sota_bounds.specs.Cells.{listed_need, pairs_by_need}
 use Rattle.sota_bounds.specs.declared.ask.AskRegion.{AskRegion}
 use Rattle.sota_tables.specs.Views.{TablesView}
 use Rattle.sota_polfile.specs.Entry.{IsBracketEntry}
@@ -96,14 +96,14 @@ module _ (net : Net) (ask : Ask) (region : AskRegion) (tables : TablesView) (law
   time-is : (i : ℕ) → IsNode net i → up_to END_LIMIT (time_at region.least i) ≡ least_to net ask.dest i
   time-is i node = sym (laws.times i (time_at region.least i) ((region-is net ask region tables is).least i node))
 
-  entry-same : (i t : ℕ) → IsNode net i → t < need_at region.need i → bracket_in tables i t ≡ grid_bracket net ask.dest i t
+  entry-same : (i t : ℕ) → IsNode net i → t < listed_need region.need i → bracket_in tables i t ≡ grid_bracket net ask.dest i t
   entry-same i t node less =
       let known = is.made.agrees.known i t (node.0, (let high : i ≤ length tables.fronts = omega (arith, node.1, is.made.nodes) in high)) less in
       rw (is.made.choice_is i t known, is.made.lower i t known, is.made.upper i t known, is.asked.1) refl
 
   row-same : (i : ℕ) → IsNode net i → bracket_row_in region tables i ≡ bracket_row net ask i
   row-same i node =
-      let needed : ℕ = need_at region.need i in
+      let needed : ℕ = listed_need region.need i in
       let start : ℕ = up_to END_LIMIT (time_at region.least i) in
       let within : needed ≤ END_LIMIT = omega (arith, need-within net ask region tables is i node, laws.short) in
       let count : needed - start ≡ pairs_at net ask.origin ask.dest ask.budget i =

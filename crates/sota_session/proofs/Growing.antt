@@ -5,15 +5,15 @@ use Rattle.sota_units.specs.Rounding.{floor_by, ceiling_by}
 use Rattle.sota_network.specs.Network.{Net, IsNode}
 use Rattle.sota_network.specs.Grid.{lo, hi, choice, value_from}
 use Rattle.sota_network.specs.Region.{need}
-use Rattle.sota_kept.specs.Laws.{ListLaws}
+use Rattle.sota_network.specs.Laws.{ListLaws}
 use Rattle.sota_kept.specs.Ticks.{least_to}
 use Rattle.sota_kept.specs.NodeTables.{NodeTable, IsSettledAt, IsReadyAt, known_end, lower_of, upper_of, choice_at}
 use Rattle.sota_kept.specs.States.{State, front_of, base_of, grown_state}
 use Rattle.sota_kept.specs.TableLists.{IsSettled, EntriesSettled, state_of, table_of}
-use Rattle.sota_bounds.specs.Cells.{need_at}
+use Rattle.sota_bounds.specs.Cells.{listed_need}
 use Rattle.sota_bounds.specs.Regions.{IsRegion}
 use Rattle.sota_bounds.specs.declared.ask.AskRegion.{AskRegion}
-use Rattle.sota_tables.specs.Views.{TablesView, HasNode, IsKnownAt, is_at_dest, lists_of, table_at, lower_at, upper_at, choice_in}
+use Rattle.sota_tables.specs.Views.{TablesView, HasNode, IsKnownAt, is_at_dest, lists_of, table_at, known_lower, known_upper, choice_in}
 use Rattle.sota_session.specs.Rows.{IsPlanned}
 
 -- the last step was taken, in tables that were ready for it, with the laws that say what this means
@@ -81,21 +81,21 @@ module _ (net : Net) (region : AskRegion) (mid new : TablesView) (has : HasGrown
   node-of : (i : ℕ) → HasNode new i → IsNode net i
   node-of i node = (node.0, (let high : i ≤ net.nodes = omega (arith, node.1, nodes-are) in high))
 
-  need-is : (i : ℕ) → IsNode net i → need_at region.need i ≡ wanted i
-  need-is i node = ap (λ (needs : List ℕ). need_at needs i) has.is.need ∙ has.lists.entry wanted net.nodes i 0 node.0 node.1
+  need-is : (i : ℕ) → IsNode net i → listed_need region.need i ≡ wanted i
+  need-is i node = ap (λ (needs : List ℕ). listed_need needs i) has.is.need ∙ has.lists.entry wanted net.nodes i 0 node.0 node.1
 
   -- ---- what is known is the grid's
   below-end : (i t : ℕ) → IsKnownAt new i t → i ≢ region.dest → t < known_end (table_at new i)
   below-end i t known off = known.below (elsewhere i off)
 
-  lower-is : (i t : ℕ) → IsKnownAt new i t → lower_at new i t ≡ lo net region.dest i t
+  lower-is : (i t : ℕ) → IsKnownAt new i t → known_lower new i t ≡ lo net region.dest i t
   lower-is i t known =
       ⊎_elim
       (λ (at : i ≡ region.dest). rw (there i at) (sym (has.lower_recurs i t ∙ (rw (eq-eqb i region.dest at) refl))))
       (λ (off : i ≢ region.dest). rw (elsewhere i off) (has.lower i t (table_at new i) (settled-at i (node-of i known.node) off) (below-end i t known off)))
       (cases_eq i region.dest)
 
-  upper-is : (i t : ℕ) → IsKnownAt new i t → upper_at new i t ≡ hi net region.dest i t
+  upper-is : (i t : ℕ) → IsKnownAt new i t → known_upper new i t ≡ hi net region.dest i t
   upper-is i t known =
       ⊎_elim
       (λ (at : i ≡ region.dest). rw (there i at) (sym (has.upper_recurs i t ∙ (rw (eq-eqb i region.dest at) refl))))

@@ -11,7 +11,7 @@ use Rattle.sota_network.specs.Network.{Net, IsNode}
 use Rattle.sota_network.specs.Numbers.{listed}
 use Rattle.sota_network.specs.Region.{pairs_at, need}
 use Rattle.sota_bounds.specs.Search.{time_at}
-use Rattle.sota_bounds.specs.Cells.{need_at, pairs_by_need}
+use Rattle.sota_bounds.specs.Cells.{listed_need, pairs_by_need}
 use Rattle.sota_bounds.specs.Regions.{IsRegion}
 use Rattle.sota_bounds.specs.declared.ask.AskRegion.{AskRegion}
 use Rattle.sota_tables.specs.Views.{TablesView}
@@ -70,24 +70,24 @@ found-rise f here a n =
 pub record IsMade (region : AskRegion) (i : ℕ) (row : PolicyRow) : Type 0 where
   pub node : row.node ≡ i
   pub time : time_at region.least i ≡ Some row.first
-  pub count : row.first + length row.entries ≡ need_at region.need i
+  pub count : row.first + length row.entries ≡ listed_need region.need i
   pub some : 1 ≤ length row.entries
 
 made-from : (region : AskRegion) (tables : TablesView) (i : ℕ) (time : Option ℕ) (row : PolicyRow) → time_at region.least i ≡ time → row_from region tables i time ≡ Some row → IsMade region i row
 made-from region tables i None row at is = absurd (cc)
 made-from region tables i (Some first) row at is =
     ⊎_elim
-    (λ (less : first < need_at region.need i).
-    let entries = map (entry_in tables i) (range_with_len first (need_at region.need i - first)) in
-    let many : length entries ≡ need_at region.need i - first = length-map-range_with_len (entry_in tables i) first (need_at region.need i - first) in
+    (λ (less : first < listed_need region.need i).
+    let entries = map (entry_in tables i) (range_with_len first (listed_need region.need i - first)) in
+    let many : length entries ≡ listed_need region.need i - first = length-map-range_with_len (entry_in tables i) first (listed_need region.need i - first) in
     let made : PolicyRow = record { node = i; first = first; entries = entries } in
-    let here : Some made ≡ Some row = (rw (lt-ltb first (need_at region.need i) less) at is) in
+    let here : Some made ≡ Some row = (rw (lt-ltb first (listed_need region.need i) less) at is) in
     let same : made ≡ row = cc in
     subst (IsMade region i) same (record { node = refl; time = at; count = omega (arith, many, less); some = omega (arith, many, less) }))
-    (λ (past : need_at region.need i ≤ first).
-    let none : None ≡ Some row = (rw (le-ltb first (need_at region.need i) past) at is) in
+    (λ (past : listed_need region.need i ≤ first).
+    let none : None ≡ Some row = (rw (le-ltb first (listed_need region.need i) past) at is) in
     absurd (cc))
-    (cases_lt first (need_at region.need i))
+    (cases_lt first (listed_need region.need i))
 
 pub row-made : (region : AskRegion) (tables : TablesView) (i : ℕ) (row : PolicyRow) → row_in region tables i ≡ Some row → IsMade region i row
 row-made region tables i row is = made-from region tables i (time_at region.least i) row refl is
@@ -101,14 +101,14 @@ pub record IsPlannedFor (net : Net) (ask : Ask) (region : AskRegion) (tables : T
 
 module _ (net : Net) (ask : Ask) (region : AskRegion) (tables : TablesView) (is : IsPlannedFor net ask region tables) where
   abbrev needed : ℕ → ℕ
-  needed i = need_at region.need i
+  needed i = listed_need region.need i
 
   pub region-is : IsRegion region net ask.origin ask.dest ask.budget
   region-is = rw (← is.asked.0, ← is.asked.1, ← is.asked.2) is.made.region_is
 
   need-is : (i : ℕ) → IsNode net i → needed i ≡ need net ask.origin ask.dest ask.budget i
   need-is i node =
-      ap (λ (needs : List ℕ). need_at needs i) region-is.need
+      ap (λ (needs : List ℕ). listed_need needs i) region-is.need
       ∙ is.entry (need net ask.origin ask.dest ask.budget) net.nodes i 0 node.0 node.1
 
   pub need-within : (i : ℕ) → IsNode net i → needed i ≤ ask.budget + 1

@@ -1,14 +1,20 @@
 // The network of a session, and the least times that are kept of it.
-ghost use Rattle.std.specs.Prelude.{◌≡◌, ◌≤◌, None, IsTrue, IfErr, IfSome, OnErr, OnOk};
+ghost use Rattle.std.specs.Prelude.{ℕ, ◌≡◌, ◌≤◌, length, None, Some, IsTrue};
+ghost use Rattle.std.specs.Prelude.{IfErr, IfOk, IfSome, OnErr, OnOk};
 ghost use Rattle.sota_hist.specs.Time.{IsTime, total};
-ghost use Rattle.sota_network.specs.Network.{IsNet, arc_at, replaced};
+ghost use Rattle.sota_network.specs.Network.{IsNet, IsNode, arc_at, replaced};
+ghost use Rattle.sota_network.specs.declared.network.Arc.{Arc};
+ghost use Rattle.sota_bounds.specs.Affected.{IsFirstAffected};
 ghost use Rattle.sota_bounds.specs.Regions.{AreLeastTo};
+ghost use Rattle.sota_bounds.specs.Search.{time_at};
 ghost use Rattle.sota_session.specs.Roads.{KeepsTicks};
 
+use sota_bounds::{affected, affected_by_least};
 use sota_hist::Histogram;
 use sota_kept::laws::edits_affect;
 use sota_network::{Network, NoArc};
-use sota_units::{ArcId, Items, NodeId};
+use sota_units::{ArcId, Items, NoMemory, NodeId, Tick};
+use std::alloc::Global;
 use std::marker::Model;
 
 /// The least time from each node to a destination: that of node `i` stands at index `i - 1`.
@@ -70,12 +76,46 @@ impl Roads {
         }
     }
 
+    /// Lends the least times to a destination. None: they are not known.
+    fn times_to(&self, dest: NodeId) -> Option<&[Option<u64>]>
+        ensures { IfSome result (λ times. AreLeastTo self.now dest times.now) }
+    {
+        let known = self.times.as_ref()?;
+        if known.dest == dest {
+            Some(known.times.as_slice())
+        } else {
+            None
+        }
+    }
+
     /// Keeps the least times to a destination.
     pub(crate) fn keep_times(&mut self, dest: NodeId, times: Items<Option<u64>>)
         requires { AreLeastTo self.old dest times }
         ensures { self.new ≡ self.old }
     {
         self.times = Some(KeptTimes { dest, times });
+    }
+
+    /// The first affected budget of each node, where an arc gets another time that differs from its
+    /// own at no tick below `first`: one search where the least times to the destination are known.
+    pub(crate) fn first_affected(
+        &self,
+        alloc: Global,
+        dest: NodeId,
+        arc: ArcId,
+        first: Tick,
+    ) -> Result<Vec<Option<u64>>, NoMemory>
+        requires dest { IsNode self.now dest }
+        requires arc { (1 ≤ arc) × (arc ≤ length self.now.arcs) }
+        ensures nodes { IfOk result (λ budgets. length budgets.items ≡ self.now.nodes) }
+        ensures value { IfOk result (λ budgets. (i : ℕ) (edited : Arc) → IsNode self.now i
+            → arc_at self.now arc ≡ Some edited → IsFirstAffected self.now dest edited first i
+            (time_at budgets.items i)) }
+    {
+        match self.times_to(dest) {
+            Some(times) => affected_by_least(alloc, &self.network, times, dest, arc, first),
+            None => affected(alloc, &self.network, dest, arc, first),
+        }
     }
 
     /// Gives an arc another time. Least times that it may change are kept no more.

@@ -28,7 +28,6 @@ use crate::edit::EditFault;
 use crate::plan::plan;
 use crate::policy::policy_of;
 use crate::roads::Roads;
-use sota_bounds::affected;
 use sota_hist::Histogram;
 use sota_kept::kept::tables_stay_right;
 use sota_kept::laws::edits_affect;
@@ -302,7 +301,7 @@ impl Session {
         };
         match (self.tables.dest(), edited.time.first_difference(time)) {
             (Some(dest), Some(first)) => {
-                let budgets = affected(self.alloc, network, dest, arc, first)?;
+                let budgets = self.roads.first_affected(self.alloc, dest, arc, first)?;
                 Ok(Some(budgets))
             }
             _ => Ok(None),

@@ -6,7 +6,7 @@ use Rattle.std.proofs.Math.ListN.{length-replicate}
 use Rattle.sota_units.specs.Limits.{NODE_LIMIT}
 use Rattle.sota_network.specs.Numbers.{listed}
 use Rattle.sota_bank.specs.Rows.{Row, row_of, list_at, cap_at, with_list, lists, capacities, empty_rows}
-use Rattle.sota_kept.specs.Laws.{ListLaws}
+use Rattle.sota_network.specs.Laws.{ListLaws}
 use Rattle.sota_kept.specs.Ticks.{END_LIMIT}
 use Rattle.sota_kept.specs.NodeTables.{NodeTable, IsNodeTable, known_end, cut_to, emptied_table}
 use Rattle.sota_kept.specs.TableLists.{table_of, AreTables}

@@ -66,11 +66,11 @@ pub record IsKnownAt (v : TablesView) (i t : ℕ) : Type 0 where
   pub below : is_at_dest v.dest i ≡ false → t < known_end (table_at v i)
 
 -- who stands at the destination has arrived, and has no arc to take
-abbrev pub lower_at : TablesView → ℕ → ℕ → ℕ
-lower_at v i t = if is_at_dest v.dest i then ONE else lower_of (table_at v i) t
+abbrev pub known_lower : TablesView → ℕ → ℕ → ℕ
+known_lower v i t = if is_at_dest v.dest i then ONE else lower_of (table_at v i) t
 
-abbrev pub upper_at : TablesView → ℕ → ℕ → ℕ
-upper_at v i t = if is_at_dest v.dest i then ONE else upper_of (table_at v i) t
+abbrev pub known_upper : TablesView → ℕ → ℕ → ℕ
+known_upper v i t = if is_at_dest v.dest i then ONE else upper_of (table_at v i) t
 
 abbrev pub choice_in : TablesView → ℕ → ℕ → Option ℕ
 choice_in v i t = if is_at_dest v.dest i then None else choice_at (table_at v i) t

@@ -1,6 +1,6 @@
 // Tables of bounds and choices.
 ghost use Rattle.std.specs.Prelude.{ℕ, ◌≡◌, ◌≢◌, ◌+◌, ◌-◌, ◌*◌, ◌<◌, ◌≤◌, true, false};
-ghost use Rattle.std.specs.Prelude.{length, slice_index, nat_lt, if◌then◌else◌, IfOk, OnOk};
+ghost use Rattle.std.specs.Prelude.{length, slice_index, nat_lt, if◌then◌else◌, IfOk, OnOk, IsTrue};
 ghost use Rattle.std.specs.Prelude.{None, Some};
 ghost use Rattle.std.specs.List.{All, sum};
 ghost use Rattle.sota_units.specs.Limits.{NODE_LIMIT};
@@ -13,7 +13,7 @@ ghost use Rattle.sota_kept.specs.NodeTables.{known_end, cut_to, pushed_table};
 ghost use Rattle.sota_kept.specs.NodeTables.{emptied_table, rebased_table};
 ghost use Rattle.sota_tables.specs.Views.{TablesView, IsTablesView, HasNode, OnlyAt, SameNodes};
 ghost use Rattle.sota_tables.specs.Views.{IsKnownAt, lists_of, table_at, is_at_dest};
-ghost use Rattle.sota_tables.specs.Views.{lower_at, upper_at, choice_in, room_of, row_needed};
+ghost use Rattle.sota_tables.specs.Views.{known_lower, known_upper, choice_in, room_of, row_needed};
 ghost use Rattle.sota_tables.specs.Views.{HasRoom, longer_table};
 
 use sota_bank::RowBank;
@@ -161,7 +161,7 @@ impl Tables {
     /// entry.
     pub fn lower(&self, node: NodeId, budget: u32) -> Grain
         requires { IsKnownAt self.now node budget }
-        ensures { result ≡ lower_at self.now node budget }
+        ensures { result ≡ known_lower self.now node budget }
     {
         self.value_at(self.lower_row(node), node, budget)
     }
@@ -170,7 +170,7 @@ impl Tables {
     /// entry.
     pub fn upper(&self, node: NodeId, budget: u32) -> Grain
         requires { IsKnownAt self.now node budget }
-        ensures { result ≡ upper_at self.now node budget }
+        ensures { result ≡ known_upper self.now node budget }
     {
         self.value_at(self.upper_row(node), node, budget)
     }
@@ -247,7 +247,8 @@ impl Tables {
         }
     }
 
-    /// A node whose front is at most this base takes it, and keeps no entry.
+    /// A node whose front is at most this base takes it, and keeps no entry. Where that is its base
+    /// it keeps none already, and no row is touched.
     fn rebase_node(&mut self, node: NodeId, base: u32)
         requires node { HasNode self.old node }
         requires limit { base ≤ END_LIMIT }
@@ -255,7 +256,7 @@ impl Tables {
         ensures others { OnlyAt node self.old self.new }
     {
         let index = node.get() as usize - 1;
-        if self.fronts[index] <= base {
+        if self.fronts[index] <= base && self.bases[index] != base {
             self.lower.cut(index, 0);
             self.upper.cut(index, 0);
             self.choices.cut(index, 0);
@@ -264,8 +265,57 @@ impl Tables {
     }
 
     /// Makes room up to each need: that of node `i` stands at index `i - 1`. All but the room
-    /// stays, on a refusal too. A row that is there is not moved where each has room already.
+    /// stays, on a refusal too. No row is moved where each has room already.
     pub fn regrow(&mut self, needs: &[u32]) -> Result<(), NoMemory>
+        requires nodes { length needs.now ≡ length self.old.fronts }
+        requires total { sum (listed (row_needed self.old needs.now) (length self.old.fronts))
+            ≤ KEPT_LIMIT }
+        ensures same { lists_of self.new ≡ lists_of self.old }
+        ensures room { OnOk result ((i : ℕ) → HasNode self.old i
+            → slice_index needs.now (i - 1) - known_end (table_at self.old i)
+            ≤ room_of self.new i) }
+    {
+        if self.has_room_up_to(needs) {
+            return Ok(());
+        }
+        self.regrow_rows(needs)
+    }
+
+    /// Whether each node has room up to its need. A row is looked at only where its node is not
+    /// known so far.
+    fn has_room_up_to(&self, needs: &[u32]) -> bool
+        requires { length needs.now ≡ length self.now.fronts }
+        ensures { IsTrue result → (i : ℕ) → HasNode self.now i
+            → slice_index needs.now (i - 1) - known_end (table_at self.now i)
+            ≤ room_of self.now i }
+    {
+        let count = self.fronts().len();
+        for index in 0..count {
+            if !self.has_row_up_to(NodeId(index as u32 + 1), needs[index]) {
+                return false;
+            }
+        }
+        true
+    }
+
+    /// Whether a node has room up to this need.
+    fn has_row_up_to(&self, node: NodeId, need: u32) -> bool
+        requires { HasNode self.now node }
+        ensures { IsTrue result
+            → need - known_end (table_at self.now node) ≤ room_of self.now node }
+    {
+        let index = node.get() as usize - 1;
+        if need <= self.fronts[index] {
+            return true;
+        }
+        let length = need.saturating_sub(self.bases[index]);
+        length <= self.lower.cap(index)
+            && length <= self.upper.cap(index)
+            && length <= self.choices.cap(index)
+    }
+
+    /// Gives each row the capacity that it wants up to its need. All but the room stays.
+    fn regrow_rows(&mut self, needs: &[u32]) -> Result<(), NoMemory>
         requires nodes { length needs.now ≡ length self.old.fronts }
         requires total { sum (listed (row_needed self.old needs.now) (length self.old.fronts))
             ≤ KEPT_LIMIT }
@@ -357,23 +407,25 @@ impl Tables {
         self.fronts[index] = end + lower.len() as u32;
     }
 
-    /// Keeps the entries of a node below a budget.
+    /// Keeps the entries of a node below a budget. No row is touched where there are no others.
     pub fn cut_to(&mut self, node: NodeId, front: u32)
         requires node { HasNode self.old node }
         ensures entries { table_at self.new node ≡ cut_to front (table_at self.old node) }
         ensures others { OnlyAt node self.old self.new }
     {
         let index = node.get() as usize - 1;
-        let kept = self.fronts[index].min(front);
-        let count = kept.saturating_sub(self.bases[index]);
+        if self.fronts[index] <= front {
+            return;
+        }
+        let count = front.saturating_sub(self.bases[index]);
         self.lower.cut(index, count);
         self.upper.cut(index, count);
         self.choices.cut(index, count);
-        self.fronts[index] = kept;
+        self.fronts[index] = front;
     }
 }
 
-/// Gives each row of a bank at least this capacity. Nothing is moved where each has it already.
+/// Gives each row of a bank this capacity.
 fn grow<T: Copy>(bank: &mut RowBank<T>, caps: &[u32]) -> Result<(), NoMemory>
     requires rows { length caps.now ≡ length bank.old }
     requires room { (row : ℕ) → row < length bank.old
@@ -382,21 +434,5 @@ fn grow<T: Copy>(bank: &mut RowBank<T>, caps: &[u32]) -> Result<(), NoMemory>
     ensures lists { lists bank.new ≡ lists bank.old }
     ensures room { OnOk result (HasRoom bank.new caps.now) }
 {
-    if has_room(bank, caps) {
-        return Ok(());
-    }
     bank.regrow(caps)
-}
-
-/// Whether each row of a bank has at least this capacity.
-fn has_room<T: Copy>(bank: &RowBank<T>, caps: &[u32]) -> bool
-    requires { length caps.now ≡ length bank.now }
-    ensures { result ≡ true → HasRoom bank.now caps.now }
-{
-    for row in 0..caps.len() {
-        if bank.cap(row) < caps[row] {
-            return false;
-        }
-    }
-    true
 }

@@ -1,6 +1,9 @@
-use Rattle.std.proofs.Common.{◌≡◌, ◌*◌, ◌≤◌, take}
-use Rattle.sota_bounds.specs.Cells.{broad_cells_by_lists}
+use Rattle.std.proofs.Common.{◌≡◌, ◌*◌, ◌≤◌}
+use Rattle.sota_bounds.proofs.Leaving.{broad_up_to}
 use Rattle.sota_bounds.proofs.cells.broad_cells_of.Given as goal
 
-abbrev pub invariant-loop-arc : goal.invariant-loop-arc
-invariant-loop-arc l = record { value : l.cells ≡ broad_cells_by_lists l.budget l.least l.needs (take l.arc-index l.network.arcs); within : l.cells ≤ l.arc-index * 131072 }
+abbrev pub invariant-loop-index : goal.invariant-loop-index
+invariant-loop-index l = record {
+  value : l.cells ≡ broad_up_to l.budget l.least l.needs l.index l.network.arcs;
+  within : l.cells ≤ l.index * 524288000000;
+}

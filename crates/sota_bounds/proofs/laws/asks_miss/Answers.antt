@@ -1,7 +1,7 @@
 use Rattle.std.proofs.Common.{ℕ, ◌≤◌, Some}
 use Rattle.sota_units.specs.Limits.{BUDGET_LIMIT}
 use Rattle.sota_network.specs.Network.{Net, IsNet}
-use Rattle.sota_kept.specs.Laws.{ListLaws}
+use Rattle.sota_network.specs.Laws.{ListLaws}
 use Rattle.sota_kept.specs.Ticks.{END_LIMIT}
 use Rattle.sota_kept.specs.States.{prepared_state}
 use Rattle.sota_bounds.proofs.Missing.{RegionLaws, prepared-fresh, missing-cells}
@@ -10,11 +10,7 @@ use Rattle.sota_bounds.proofs.laws.asks_miss.Goals as goal
 
 pub returns : goal.returns
 returns c =
-    let lists : ListLaws = record {
-      count = c.lists_by_number.ensures.count;
-      entry = c.lists_by_number.ensures.entry;
-      agree = c.lists_by_number.ensures.agree;
-    } in
+    let lists : ListLaws = c.lists_by_number.ensures in
     let laws : (net : Net) (origin dest last : ℕ) → IsNet net → last ≤ BUDGET_LIMIT
     → RegionLaws net origin dest last = λ net origin dest last valid short. record {
       short = short;

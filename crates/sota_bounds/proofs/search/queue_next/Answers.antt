@@ -3,7 +3,7 @@ use Rattle.std.specs.Option.{option_and_then}
 use Rattle.std.proofs.lemmas.List.Elements.{All-cons}
 use Rattle.std.proofs.lemmas.List.Sorted.{All-permutation}
 use Rattle.sota_network.specs.Network.{IsNode, arc_at}
-use Rattle.sota_bounds.specs.Search.{end_of, next_visit}
+use Rattle.sota_bounds.specs.Search.{target_of, next_visit}
 use Rattle.sota_bounds.specs.declared.search.Visit.{Visit}
 use Rattle.sota_bounds.proofs.Joined.{end-valid}
 use Rattle.sota_bounds.proofs.Queued.{queued-more, queued-same}
@@ -12,7 +12,7 @@ use Rattle.sota_bounds.proofs.search.queue_next.Goals as goal
 
 pub next_visit-requires-clause-end : goal.next_visit-requires-clause-end
 next_visit-requires-clause-end c =
-    let node : IsNode c.args.network.now (end_of c.args.direction c.numbered-arc.result.now) = end-valid c.args.network.now c.args.direction c.numbered-arc.result.now c.numbered-arc.ensures.valid in
+    let node : IsNode c.args.network.now (target_of c.args.direction c.numbered-arc.result.now) = end-valid c.args.network.now c.args.direction c.numbered-arc.result.now c.numbered-arc.ensures.valid in
     (node.0, omega (arith, node.1, c.requires.nodes))
 
 -- what is queued for the number that is looked at

@@ -12,7 +12,7 @@ returns-clause-planned g c =
     let ready = c.in_ok-run.ensures.ready in
     let valid = ready.valid in
     planned net region mid new (record {
-      lists = record { count = c.lists_by_number.ensures.count; entry = c.lists_by_number.ensures.entry; agree = c.lists_by_number.ensures.agree };
+      lists = c.lists_by_number.ensures;
       is = c.requires.region;
       origin = c.requires.origin;
       to = rw (← c.in_ok-run.ensures.region) ready.dest;
