@@ -1,19 +1,24 @@
 -- Values that are fed to a summer.
-use Rattle.std.proofs.Common.{ℕ, false, zero, suc, ◌≡◌, ◌≢◌, ◌+◌, ◌-◌, ◌<◌, ◌≤◌, max, Option, None, Some, List, [], ◌∷◌, ◌++◌, length, map, get_or, refl, sym, ◌∙◌, ap, subst, arith, ⊎_elim}
-use Rattle.std.proofs.lemmas.Bool.{cases_lt, cases_eq, lt-ltb, le-ltb}
+use Rattle.std.proofs.Common.{ℕ, false, true, zero, suc, ◌≡◌, ◌+◌, ◌-◌, ◌<◌, ◌≤◌, max, min, nat_lt, Option, None, Some, List, [], ◌∷◌, ◌++◌, length, map, take, get_or, slice_index, refl, sym, ◌∙◌, ap, subst, arith, ⊎_elim}
+use Rattle.std.proofs.lemmas.Bool.{cases_lt, cases_eq, cases_Bool, ltb-true, and_parts}
 use Rattle.std.proofs.lemmas.Option.{none-some, slice_get_within, get_or_from_slice_get}
 use Rattle.std.specs.Prelude.{Box}
+use Rattle.std.specs.List.{All}
 use Rattle.std.specs.declared.alloc.Global.{Global}
 use Rattle.std.proofs.Math.ListN.{set}
 use Rattle.std.proofs.Math.ListN as maps
-use Rattle.std.proofs.lemmas.List.{length-append, get_or_append_left, get_or-append_right, get_or-set_same, get_or_default, get_or-map}
-use Rattle.sota_online.specs.Summer.{SummerState, kernel_of, fed_more}
-use Rattle.sota_fill.specs.Fed.{IsFed}
+use Rattle.std.proofs.lemmas.List.{length-append, get_or_append_left, get_or-append_right, get_or-set_same, get_or-set_other, get_or_default, get_or_past, get_or-map, map-append, map_more}
+use Rattle.std.proofs.lemmas.List.FromFn.{length-map-range_with_len}
+use Rattle.sota_bank.specs.Rows.{Row}
+use Rattle.sota_online.specs.Summer.{SummerState, span, kernel_of, fed_more}
+use Rattle.sota_fill.specs.Fed.{IsFed, IsSameSummer}
 use Rattle.sota_network.specs.Network.{Net, arc_at}
 use Rattle.sota_network.specs.declared.network.Arc.{Arc}
-use Rattle.sota_hist.specs.Time.{is_closed, within}
+use Rattle.sota_hist.specs.Time.{is_closed, least_tick, mass_at, within}
 use Rattle.sota_network.specs.Region.{NARROW}
-use Rattle.sota_period.specs.Broad.{IsFedOn, FedOnAt, IsFedArc, AllFed, AllReach, SummerList, state_of, state_at, unfed, first_state}
+use Rattle.sota_period.specs.Needs.{need_at}
+use Rattle.sota_period.specs.Rows.{row_of, row_value, row_room, AreLonger}
+use Rattle.sota_period.specs.Broad.{IsFedOn, IsFedArc, AllFed, IsReady, AllReady, AreSame, IsWorkFor, SummerList, state_of, state_at, unfed, first_state, is_summed, kernel_places}
 
 pub fed-next : (old new : SummerState) (v : ℕ) (time : List (ℕ × ℕ)) (f : ℕ → ℕ) → IsFed old time 0 f → 1 ≤ old.room → new ≡ fed_more v old → v ≡ f (length old.values) → IsFed new time 0 f
 fed-next old new v time f fed room at is =
@@ -35,33 +40,35 @@ fed-next old new v time f fed room at is =
     })
 
 -- a summer was fed on, until so many values are fed: value `a` is the given one
-pub record FedTo (old now : SummerState) (count index : ℕ) (value : ℕ → ℕ) : Type 0 where
+pub record FedTo (old now : SummerState) (count index : ℕ) (value : ℕ → ℕ) (places work : ℕ) : Type 0 where
   pub fed : (time : List (ℕ × ℕ)) (f : ℕ → ℕ) → IsFed old time 0 f → ((a : ℕ) → a < count → value a ≡ f a) → IsFed now time 0 f
   pub count_is : length now.values ≡ index
   pub low : length old.values ≤ index
   pub high : index ≤ max (length old.values) count
-  pub total : length now.values + now.room ≡ length old.values + old.room
+  pub same : IsSameSummer old now
+  pub work_is : work ≡ places
 
-pub fed-to-more : (old now new : SummerState) (count index v : ℕ) (value : ℕ → ℕ) → FedTo old now count index value → index < count → count ≤ length old.values + old.room → v ≡ value index → new ≡ fed_more v now → FedTo old new count (index + 1) value
-fed-to-more old now new count index v value to less room is at =
+-- and its kernel fits still
+pub fed-to-fits : (old now : SummerState) (count index : ℕ) (value : ℕ → ℕ) (places work : ℕ) → FedTo old now count index value places work → length old.kernel ≤ places → length now.kernel ≤ work
+fed-to-fits old now count index value places work to fits = omega (arith, ap (λ (xs : List ℕ). length xs) to.same.kernel, to.work_is, fits)
+
+pub fed-to-more : (old now new : SummerState) (count index v : ℕ) (value : ℕ → ℕ) (places work work' : ℕ) → FedTo old now count index value places work → index < count → count ≤ length old.values + old.room → v ≡ value index → new ≡ fed_more v now → work' ≡ work → FedTo old new count (index + 1) value places work'
+fed-to-more old now new count index v value places work work' to less room is at lent =
     let more : length new.values ≡ length now.values + 1 = ap (λ (s : SummerState). length s.values) at ∙ length-append now.values (v ∷ []) in
     let left : new.room ≡ now.room - 1 = ap (λ (s : SummerState). s.room) at in
-    let some : 1 ≤ now.room = omega (arith, less, room, to.total, to.count_is) in
+    let some : 1 ≤ now.room = omega (arith, less, room, to.same.total, to.count_is) in
     record {
       fed = λ time f start agree. fed-next now new v time f (to.fed time f start agree) some at (is ∙ agree index less ∙ ap f (sym to.count_is));
       count_is = omega (arith, more, to.count_is);
       low = omega (arith, to.low);
       high = omega (arith, less);
-      total = omega (arith, more, left, some, to.total);
+      same = record {
+        kernel = ap (λ (s : SummerState). s.kernel) at ∙ to.same.kernel;
+        start = ap (λ (s : SummerState). s.start) at ∙ to.same.start;
+        total = omega (arith, more, left, some, to.same.total);
+      };
+      work_is = lent ∙ to.work_is;
     }
-
--- the same values, given otherwise
-pub fed-as : (value other : ℕ → ℕ) (to : ℕ) (old new : SummerState) → ((a : ℕ) → a < to → value a ≡ other a) → IsFedOn value to old new → IsFedOn other to old new
-fed-as value other to old new same on = record {
-  fed = λ time f start agree. on.fed time f start (λ a less. same a less ∙ agree a less);
-  count = on.count;
-  total = on.total;
-}
 
 -- ---- the summer of an arc, by its number
 pub state-read : {Z : Type 0} (state : Z → SummerState) (broad : SummerList Z) (e i n : ℕ) (d : Option (Box Z Global)) (summer : Box Z Global) → i ≡ e → (1 ≤ e) × (e ≤ n) → length broad ≡ n → get_or broad (i - 1) d ≡ Some summer
@@ -75,101 +82,198 @@ pub state-set : {Z : Type 0} (state : Z → SummerState) (broad : SummerList Z) 
 state-set {Z} state broad e i n summer same number long =
     ap (λ (k : ℕ). state_at state (set broad (k - 1) (Some summer)) e) same ∙ ap (state_of state) (get_or-set_same broad (e - 1) (Some summer) None (omega (arith, number.0, number.1)))
 
--- ---- all summers, arc by arc
-module _ (net : Net) (to k : ℕ) (value : Arc → ℕ → ℕ) (first before after : ℕ → Option SummerState)
-    (left : (e : ℕ) → k < e → before e ≡ first e) (others : (e : ℕ) → 1 ≤ e → e ≢ k + 1 → after e ≡ before e) where
-  pub all-fed : ((e : ℕ) (arc : Arc) (state : SummerState) → e ≤ k → arc_at net e ≡ Some arc → first e ≡ Some state → FedOnAt (value arc) to state (before e))
-      → ((arc : Arc) (state : SummerState) → arc_at net (k + 1) ≡ Some arc → before (k + 1) ≡ Some state → FedOnAt (value arc) to state (after (k + 1)))
-      → (e : ℕ) (arc : Arc) (state : SummerState) → e ≤ k + 1 → arc_at net e ≡ Some arc → first e ≡ Some state → FedOnAt (value arc) to state (after e)
-  all-fed fed now zero arc state less number is = absurd (cc)
-  all-fed fed now (suc n) arc state less number is =
+-- ---- the same summers
+same-summer : (state : SummerState) → IsSameSummer state state
+same-summer state = record { kernel = refl; start = refl; total = refl }
+
+pub same-none : (at : ℕ → Option SummerState) → AreSame at at
+same-none at e state low is = (state, is, same-summer state)
+
+pub same-then : (before now after : ℕ → Option SummerState) → AreSame before now → AreSame now after → AreSame before after
+same-then before now after first second e state low is =
+    let late = second e state low is in
+    let soon = first e late.0 low late.1 in (
+      soon.0,
+      soon.1,
+      record { kernel = late.2.kernel ∙ soon.2.kernel; start = late.2.start ∙ soon.2.start; total = late.2.total ∙ soon.2.total },
+    )
+
+pub same-ready : (net : Net) (from places : ℕ) (before after : ℕ → Option SummerState) → AreSame before after → AllReady net from places before → AllReady net from places after
+same-ready net from places before after same ready zero arc state number is = absurd (cc)
+same-ready net from places before after same ready (suc k) arc state number is =
+    let was = same (suc k) state (omega arith) is in
+    let old : IsReady arc from places was.0 = ready (suc k) arc was.0 number was.1 in
+    record {
+      start = omega (arith, was.2.start, old.start);
+      work = omega (arith, ap (λ (xs : List ℕ). length xs) was.2.kernel, old.work);
+    }
+
+pub later-ready : (net : Net) (from more places work : ℕ) (at : ℕ → Option SummerState) → from ≤ more → work ≡ places → AllReady net from places at → AllReady net more work at
+later-ready net from more places work at late same ready e arc state number is =
+    let old : IsReady arc from places state = ready e arc state number is in
+    record { start = omega (arith, late, old.start); work = omega (arith, same, old.work) }
+
+-- ---- what the summers hold
+fed-on : (rows : List (Row ℕ)) (arc : Arc) (known : ℕ) (old new : SummerState) → known ≡ length (row_of rows arc.head) → IsFedArc rows arc old
+    → IsFedOn (λ a. slice_index (row_of rows arc.head) a) known old new → IsFedArc rows arc new
+fed-on rows arc known old new at was on = record {
+  open_arc = was.open_arc;
+  fed = on.fed arc.time (row_value rows arc.head) was.fed (λ a less. refl);
+  count = omega (arith, on.count, was.count, at);
+  total = on.same.total ∙ was.total;
+}
+
+module _ {Z : Type 0} (state : Z → SummerState) (rows : List (Row ℕ)) (net : Net) (broad : SummerList Z) (number i : ℕ) (summer new : Box Z Global) (arc : Arc) (known : ℕ)
+    (same : i ≡ number) (inside : (1 ≤ number) × (number ≤ length net.arcs)) (long : length broad ≡ length net.arcs) (at : arc_at net number ≡ Some arc)
+    (found : state_at state broad number ≡ Some (state summer.value)) (whole : known ≡ length (row_of rows arc.head))
+    (on : IsFedOn (λ a. slice_index (row_of rows arc.head) a) known (state summer.value) (state new.value)) where
+  own : state_at state (set broad (i - 1) (Some new)) number ≡ Some (state new.value)
+  own = state-set state broad number i (length net.arcs) new same inside long
+
+  one-fed : AllFed rows net (state_at state broad) → (a : Arc) (s : SummerState) → arc_at net number ≡ Some a → state_at state (set broad (i - 1) (Some new)) number ≡ Some s → IsFedArc rows a s
+  one-fed was a s number-is is =
+      let both : Some (state new.value) ≡ Some s = sym own ∙ is in
+      let one : state new.value ≡ s = cc in
+      let arcs : Some arc ≡ Some a = sym at ∙ number-is in
+      let two : arc ≡ a = cc in
+      subst (λ (b : Arc). IsFedArc rows b s) two
+      (subst (λ (t : SummerState). IsFedArc rows arc t) one (fed-on rows arc known (state summer.value) (state new.value) whole (was number arc (state summer.value) at found) on))
+
+  pub set-fed : AllFed rows net (state_at state broad) → AllFed rows net (state_at state (set broad (i - 1) (Some new)))
+  set-fed was zero a s number-is is = absurd (cc)
+  set-fed was (suc k) a s number-is is =
       ⊎_elim
-      (λ (here : suc n ≡ k + 1).
-      let was : before (k + 1) ≡ Some state = left (k + 1) (omega arith) ∙ ap first (sym here) ∙ is in
-      subst (λ (e : ℕ). FedOnAt (value arc) to state (after e)) (sym here) (now arc state (ap (arc_at net) (sym here) ∙ number) was))
-      (λ (off : suc n ≡ k + 1 → ⊥).
-      subst (λ (o : Option SummerState). FedOnAt (value arc) to state o) (sym (others (suc n) (omega arith) off)) (fed (suc n) arc state (omega arith) number is))
-      (cases_eq (suc n) (k + 1))
+      (λ (here : suc k ≡ number).
+      one-fed was a s (subst (λ (e : ℕ). arc_at net e ≡ Some a) here number-is) (subst (λ (e : ℕ). state_at state (set broad (i - 1) (Some new)) e ≡ Some s) here is))
+      (λ (off : suc k ≡ number → ⊥).
+      let apart : suc k - 1 ≡ i - 1 → ⊥ = λ eq. off (omega (arith, eq, same, inside.0)) in
+      was (suc k) a s number-is (ap (state_of state) (sym (get_or-set_other broad (i - 1) (suc k - 1) (Some new) None apart)) ∙ is))
+      (cases_eq (suc k) number)
 
-  pub all-none : ((e : ℕ) → 1 ≤ e → e ≤ k → first e ≡ None → before e ≡ None) → (before (k + 1) ≡ None → after (k + 1) ≡ None)
-      → (e : ℕ) → 1 ≤ e → e ≤ k + 1 → first e ≡ None → after e ≡ None
-  all-none none now e low less is =
+  pub set-reach : (a : Arc) (s : SummerState) → arc_at net number ≡ Some a → state_at state (set broad (i - 1) (Some new)) number ≡ Some s → length (row_of rows a.head) ≤ length s.values
+  set-reach a s number-is is =
+      let both : Some (state new.value) ≡ Some s = sym own ∙ is in
+      let one : length (state new.value).values ≡ length s.values = (let eq : state new.value ≡ s = cc in ap (λ (t : SummerState). length t.values) eq) in
+      let arcs : Some arc ≡ Some a = sym at ∙ number-is in
+      let two : length (row_of rows arc.head) ≡ length (row_of rows a.head) = (let eq : arc ≡ a = cc in ap (λ (b : Arc). length (row_of rows b.head)) eq) in
+      omega (arith, one, two, on.count, whole)
+
+  pub set-same : AreSame (state_at state broad) (state_at state (set broad (i - 1) (Some new)))
+  set-same e s low is =
       ⊎_elim
-      (λ (here : e ≡ k + 1). ap after here ∙ now (left (k + 1) (omega arith) ∙ ap first (sym here) ∙ is))
-      (λ (off : e ≡ k + 1 → ⊥). others e low off ∙ none e low (omega arith) is)
-      (cases_eq e (k + 1))
+      (λ (here : e ≡ number).
+      let both : Some (state new.value) ≡ Some s = sym own ∙ ap (λ (k : ℕ). state_at state (set broad (i - 1) (Some new)) k) (sym here) ∙ is in
+      let one : state new.value ≡ s = cc in
+      (state summer.value, ap (state_at state broad) here ∙ found, subst (λ (t : SummerState). IsSameSummer (state summer.value) t) one on.same))
+      (λ (off : e ≡ number → ⊥).
+      let apart : e - 1 ≡ i - 1 → ⊥ = λ eq. off (omega (arith, eq, same, inside.0, low)) in
+      (s, ap (state_of state) (sym (get_or-set_other broad (i - 1) (e - 1) (Some new) None apart)) ∙ is, same-summer s))
+      (cases_eq e number)
 
-  pub all-left : (e : ℕ) → k + 1 < e → after e ≡ first e
-  all-left e late = others e (omega arith) (λ same. omega arith) ∙ left e (omega arith)
-
--- ---- what the summers of a period hold
-module _ (f : ℕ → ℕ → ℕ) (net : Net) (width to : ℕ) (first after : ℕ → Option SummerState) (value : Arc → ℕ → ℕ)
-    (was : AllFed f net width to first)
-    (fed : (e : ℕ) (arc : Arc) (state : SummerState) → arc_at net e ≡ Some arc → first e ≡ Some state → FedOnAt (value arc) to state (after e))
-    (none : (e : ℕ) → 1 ≤ e → first e ≡ None → after e ≡ None)
-    (agree : (e : ℕ) (arc : Arc) (u : ℕ) → arc_at net e ≡ Some arc → u < to → value arc u ≡ f arc.head u) where
-  fed-by : (e : ℕ) (arc : Arc) (state : SummerState) → arc_at net e ≡ Some arc → after e ≡ Some state → (o : Option SummerState) → first e ≡ o
-      → IsFedArc f arc width to state × (to ≤ length state.values)
-  fed-by zero arc state number is o there = absurd (cc)
-  fed-by (suc k) arc state number is None there = absurd (let gone : after (suc k) ≡ None = none (suc k) (omega arith) there in none-some state (sym gone ∙ is))
-  fed-by (suc k) arc state number is (Some old) there =
-      let before : IsFedArc f arc width to old = was (suc k) arc old number there in
-      let now = fed (suc k) arc old number there in
-      let same : now.0 ≡ state = (let both : Some now.0 ≡ Some state = sym now.1 ∙ is in cc) in
-      let on : IsFedOn (value arc) to old state = subst (λ (s : SummerState). IsFedOn (value arc) to old s) same now.2 in (
-        record {
-          open_arc = before.open_arc;
-          fed = on.fed arc.time (f arc.head) before.fed (λ a less. agree (suc k) arc a number less);
-          count = omega (arith, on.count, before.count);
-          total = omega (arith, on.total, before.total);
-        },
-        omega (arith, on.count),
-      )
-
-  pub fed-now : AllFed f net width to after
-  fed-now e arc state number is = (fed-by e arc state number is (first e) refl).0
-
-  pub fed-reach : AllReach net to after
-  fed-reach e arc state number is = (fed-by e arc state number is (first e) refl).1
-
-pub fed-later : (f : ℕ → ℕ → ℕ) (net : Net) (width to more : ℕ) (at : ℕ → Option SummerState) → to ≤ more → AllFed f net width to at → AllFed f net width more at
-fed-later f net width to more at le fed e arc state number is =
-    let was : IsFedArc f arc width to state = fed e arc state number is in
-    record { open_arc = was.open_arc; fed = was.fed; count = omega (arith, was.count); total = was.total }
+-- rows that go on
+pub grown-fed : (rows new : List (Row ℕ)) (net : Net) (at : ℕ → Option SummerState) → AreLonger rows new → AllFed rows net at → AllFed new net at
+grown-fed rows new net at longer all e arc state number is =
+    let was : IsFedArc rows arc state = all e arc state number is in
+    record {
+      open_arc = was.open_arc;
+      fed = record {
+        kernel = was.fed.kernel;
+        values = λ a less. was.fed.values a less ∙ sym (longer.entry arc.head (0 + a) (omega (arith, less, was.count)));
+        below = λ u h. absurd (omega arith);
+      };
+      count = omega (arith, was.count, longer.long arc.head);
+      total = was.total ∙ sym (longer.room arc.head);
+    }
 
 -- ---- summers that were fed nothing yet
-broad-open : (budget : ℕ) (time : List (ℕ × ℕ)) → NARROW < length (within budget time) → is_closed time ≡ false
-broad-open budget [] many = absurd (omega arith)
-broad-open budget (p ∷ ps) many = refl
+broad-open : (late : ℕ) (time : List (ℕ × ℕ)) → NARROW < length (within late time) → is_closed time ≡ false
+broad-open late [] many = absurd (omega arith)
+broad-open late (p ∷ ps) many = refl
 
-first-fed : (f : ℕ → ℕ → ℕ) (arc : Arc) (budget to : ℕ) (state : SummerState) → first_state budget arc ≡ Some state → IsFedArc f arc (budget + 1) to state
-first-fed f arc budget to state is =
+pub summed-open : (needs : List ℕ) (from : ℕ) (arc : Arc) → is_summed needs from arc ≡ true → is_closed arc.time ≡ false
+summed-open needs from arc is =
+    broad-open (need_at needs arc.tail - 1) arc.time (ltb-true NARROW (length (within (need_at needs arc.tail - 1) arc.time)) (and_parts (nat_lt from (need_at needs arc.tail)) (nat_lt NARROW (length (within (need_at needs arc.tail - 1) arc.time))) is).1)
+
+first-fed : (rows : List (Row ℕ)) (needs : List ℕ) (from : ℕ) (arc : Arc) (state : SummerState) → row_room rows arc.head ≡ need_at needs arc.head → first_state needs from arc ≡ Some state → IsFedArc rows arc state
+first-fed rows needs from arc state room is =
     ⊎_elim
-    (λ (many : NARROW < length (within budget arc.time)).
-    let both : Some (unfed (budget + 1) arc) ≡ Some state = rw (lt-ltb NARROW (length (within budget arc.time)) many) at is in
-    let same : unfed (budget + 1) arc ≡ state = cc in
-    subst (λ (s : SummerState). IsFedArc f arc (budget + 1) to s) same
+    (λ (yes : is_summed needs from arc ≡ true).
+    let both : Some (unfed (need_at needs arc.head) from arc) ≡ Some state = rw yes at is in
+    let same : unfed (need_at needs arc.head) from arc ≡ state = cc in
+    subst (λ (s : SummerState). IsFedArc rows arc s) same
     (record {
-      open_arc = broad-open budget arc.time many;
+      open_arc = summed-open needs from arc yes;
       fed = record {
-        kernel = ap (λ (n : ℕ). kernel_of n arc.time) (let y : budget + 1 ≡ 0 + (budget + 1) = omega arith in y);
+        kernel = ap (λ (n : ℕ). kernel_of n arc.time) (let y : need_at needs arc.head ≡ 0 + need_at needs arc.head = omega arith in y);
         values = λ a less. absurd (omega arith);
         below = λ u less. absurd (omega arith);
       };
       count = omega arith;
-      total = omega arith;
+      total = (let y : 0 + need_at needs arc.head ≡ row_room rows arc.head = omega (arith, room) in y);
     }))
-    (λ (few : length (within budget arc.time) ≤ NARROW).
-    absurd (let gone : None ≡ Some state = rw (le-ltb NARROW (length (within budget arc.time)) few) at is in none-some state gone))
-    (cases_lt NARROW (length (within budget arc.time)))
+    (λ (no : is_summed needs from arc ≡ false).
+    absurd (let gone : None ≡ Some state = rw no at is in none-some state gone))
+    (cases_Bool (is_summed needs from arc))
 
-pub start-fed : {Z : Type 0} (state : Z → SummerState) (items : SummerList Z) (f : ℕ → ℕ → ℕ) (net : Net) (budget to : ℕ) → map (state_of state) items ≡ map (first_state budget) net.arcs
-    → AllFed f net (budget + 1) to (state_at state items)
-start-fed {Z} state items f net budget to same zero arc s number is = absurd (cc)
-start-fed {Z} state items f net budget to same (suc k) arc s number is =
-    let inside : k < length net.arcs = slice_get_within net.arcs k arc number in
-    let there : get_or net.arcs k arc ≡ arc = get_or_from_slice_get net.arcs k arc arc number in
-    let place : k ≡ suc k - 1 = omega arith in
-    let made : get_or (map (first_state budget) net.arcs) k None ≡ first_state budget arc = get_or-map (first_state budget) net.arcs k arc None inside ∙ ap (first_state budget) there in
-    let found : get_or (map (state_of state) items) k None ≡ state_at state items (suc k) = maps.get_or-map (state_of state) items k None ∙ ap (λ (n : ℕ). state_of state (get_or items n None)) place in
-    first-fed f arc budget to s (sym made ∙ ap (λ (xs : List (Option SummerState)). get_or xs k None) (sym same) ∙ found ∙ is)
+first-ready : (needs : List ℕ) (from places : ℕ) (arc : Arc) (state : SummerState) → IsWorkFor places (first_state needs from arc) → first_state needs from arc ≡ Some state → IsReady arc from places state
+first-ready needs from places arc state room is =
+    ⊎_elim
+    (λ (yes : is_summed needs from arc ≡ true).
+    let both : Some (unfed (need_at needs arc.head) from arc) ≡ Some state = rw yes at is in
+    let same : unfed (need_at needs arc.head) from arc ≡ state = cc in
+    record {
+      start = subst (λ (s : SummerState). s.start ≤ from + 1 - least_tick arc.time) same (omega arith);
+      work = subst (IsWorkFor places) is room;
+    })
+    (λ (no : is_summed needs from arc ≡ false).
+    absurd (let gone : None ≡ Some state = rw no at is in none-some state gone))
+    (cases_Bool (is_summed needs from arc))
+
+module _ {Z : Type 0} (state : Z → SummerState) (items : SummerList Z) (net : Net) (needs : List ℕ) (from : ℕ)
+    (same : map (state_of state) items ≡ map (first_state needs from) net.arcs) where
+  first-at : (k : ℕ) (arc : Arc) (s : SummerState) → arc_at net (suc k) ≡ Some arc → state_at state items (suc k) ≡ Some s → first_state needs from arc ≡ Some s
+  first-at k arc s number is =
+      let inside : k < length net.arcs = slice_get_within net.arcs k arc number in
+      let there : get_or net.arcs k arc ≡ arc = get_or_from_slice_get net.arcs k arc arc number in
+      let place : k ≡ suc k - 1 = omega arith in
+      let made : get_or (map (first_state needs from) net.arcs) k None ≡ first_state needs from arc = get_or-map (first_state needs from) net.arcs k arc None inside ∙ ap (first_state needs from) there in
+      let found : get_or (map (state_of state) items) k None ≡ state_at state items (suc k) = maps.get_or-map (state_of state) items k None ∙ ap (λ (n : ℕ). state_of state (get_or items n None)) place in
+      sym made ∙ ap (λ (xs : List (Option SummerState)). get_or xs k None) (sym same) ∙ found ∙ is
+
+  pub start-fed : (rows : List (Row ℕ)) → ((e : ℕ) (arc : Arc) → arc_at net e ≡ Some arc → row_room rows arc.head ≡ need_at needs arc.head) → AllFed rows net (state_at state items)
+  start-fed rows room zero arc s number is = absurd (cc)
+  start-fed rows room (suc k) arc s number is = first-fed rows needs from arc s (room (suc k) arc number) (first-at k arc s number is)
+
+  pub start-ready : (places : ℕ) → All (λ arc. IsWorkFor places (first_state needs from arc)) net.arcs → AllReady net from places (state_at state items)
+  start-ready places room zero arc s number is = absurd (cc)
+  start-ready places room (suc k) arc s number is =
+      let inside : k < length net.arcs = slice_get_within net.arcs k arc number in
+      let there : get_or net.arcs k arc ≡ arc = get_or_from_slice_get net.arcs k arc arc number in
+      first-ready needs from places arc s (subst (λ (a : Arc). IsWorkFor places (first_state needs from a)) there (room k arc inside)) (first-at k arc s number is)
+
+-- a kernel has no more places than there are values
+kernel-few : (width : ℕ) (time : List (ℕ × ℕ)) → length (kernel_of width time) ≤ width
+kernel-few width time = omega (arith, length-map-range_with_len (λ b. mass_at (least_tick time + b) time) 0 (min (span time) width))
+
+need-few : (needs : List ℕ) (i most : ℕ) → All (λ n. n ≤ most) needs → need_at needs i ≤ most
+need-few needs i most few =
+    ⊎_elim
+    (λ (inside : i - 1 < length needs). few (i - 1) 0 inside)
+    (λ (past : length needs ≤ i - 1). omega (arith, get_or_past needs (i - 1) 0 past))
+    (cases_lt (i - 1) (length needs))
+
+pub places-few : (needs : List ℕ) (from most : ℕ) (arc : Arc) → All (λ n. n ≤ most) needs → kernel_places (first_state needs from arc) ≤ most
+places-few needs from most arc few =
+    ⊎_elim
+    (λ (yes : is_summed needs from arc ≡ true). rw yes (omega (arith, kernel-few (need_at needs arc.head) arc.time, need-few needs arc.head most few)))
+    (λ (no : is_summed needs from arc ≡ false). rw no (omega arith))
+    (cases_Bool (is_summed needs from arc))
+
+-- one arc more
+pub made-more : {X : Type 0} (state : X → Option SummerState) (sums : Arc → Option SummerState) (items new : List X) (made : X) (arcs : List Arc) (k : ℕ) (arc : Arc) → new ≡ items ++ made ∷ [] → map state items ≡ map sums (take k arcs) → k < length arcs → arc ≡ get_or arcs k arc → state made ≡ sums arc
+    → map state new ≡ map sums (take (k + 1) arcs)
+made-more state sums items new made arcs k arc at before inside read is =
+    ap (map state) at ∙ map-append state items (made ∷ [])
+    ∙ ap (λ (xs : List (Option SummerState)). xs ++ state made ∷ []) before
+    ∙ ap (λ (s : Option SummerState). map sums (take k arcs) ++ s ∷ []) (is ∙ ap sums read)
+    ∙ sym (map_more sums arcs k arc inside)

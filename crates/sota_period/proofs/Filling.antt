@@ -1,27 +1,30 @@
 -- The values at budgets at which none reads another.
-use Rattle.std.proofs.Common.{ℕ, zero, suc, ◌≡◌, ◌≢◌, ◌+◌, ◌-◌, ◌*◌, ◌<◌, ◌≤◌, false, true, List, [], ◌∷◌, length, get_or, slice_index, slice_get, Option, Some, None, refl, sym, ◌∙◌, ap, subst, arith, ⊎_elim}
-use Rattle.std.specs.List.{All}
+use Rattle.std.proofs.Common.{ℕ, zero, suc, ◌≡◌, ◌≢◌, ◌+◌, ◌-◌, ◌*◌, ◌<◌, ◌≤◌, false, min, List, [], ◌++◌, length, get_or, slice_index, replicate, ◌^◌, Some, refl, sym, ◌∙◌, ap, subst, arith, ⊎_elim}
+use Rattle.std.specs.List.{All, sum}
 use Rattle.std.proofs.lemmas.Bool.{cases_eq, cases_lt, ne_eqb}
 use Rattle.std.proofs.lemmas.Option.{slice_get_within, get_or_from_slice_get, slice_get-get_or}
-use Rattle.std.proofs.lemmas.List.{get_or_default}
-use Rattle.std.proofs.Math.Nat.{mul-le-mul_right}
-use Rattle.sota_units.specs.Rounding.{ONE, floor_by, ceiling_by}
-use Rattle.sota_hist.specs.Time.{RisesFrom, IsTime, is_closed, least_tick}
+use Rattle.std.proofs.lemmas.List.{get_or_default, get_or_append_left, get_or-append_right, length-append, length-map, length-replicate, get_or-replicate, get_or-set_same, get_or-set_other, length-set}
+use Rattle.std.proofs.lemmas.List.Sums.{sum_by-le}
+use Rattle.std.proofs.Math.ListN as maps
+use Rattle.sota_units.specs.Rounding.{ONE}
+use Rattle.sota_bank.specs.Rows.{Row, list_at, cap_at, with_list, empty_rows}
+use Rattle.sota_bank.specs.Rows as bank
+use Rattle.sota_hist.specs.Time.{is_closed, least_tick}
 use Rattle.sota_network.specs.Network.{Net, IsNet, IsArc, arc_at}
-use Rattle.sota_network.specs.Grid.{weighed, plain_sum, best_sum, choice_of}
+use Rattle.sota_network.specs.Grid.{plain_sum, best_sum, choice_of}
 use Rattle.sota_network.specs.declared.network.Arc.{Arc}
 use Rattle.sota_sums.specs.Bounds.{rounded_in}
 use Rattle.sota_sums.specs.declared.bound.Bound.{Bound}
 use Rattle.sota_sums.specs.declared.bound.Bound.TheVariants.{Lower, Upper}
 use Rattle.sota_period.specs.declared.ask.Ask.{Ask}
 use Rattle.sota_period.specs.Laws.{NetworkLaws}
-use Rattle.sota_period.specs.Periods.{TimedNet, IsTimedNet}
-use Rattle.sota_period.specs.Grid.{timed_value, tlo, thi, tchoice}
-use Rattle.sota_period.specs.Rows.{row_place, row_value, round_of, asked_net, asked_value, asked_nodes, asked_width, IsAsk, AreRows, Holds, TakesAtLeast}
-use Rattle.sota_online.specs.Summer.{SummerState}
-use Rattle.sota_period.specs.Broad.{AllFed, AllReach, AllFedFar, IsFedArc}
-use Rattle.sota_period.proofs.Periods.{is-timed}
-use Rattle.sota_period.proofs.Best.{best-agree, choice-agree}
+use Rattle.sota_period.specs.Needs.{Serves, need_at}
+use Rattle.sota_period.specs.Periods.{IsTimedNet}
+use Rattle.sota_period.specs.Grid.{timed_value, tlo, tchoice}
+use Rattle.sota_period.specs.Rows.{row_of, row_value, row_room, round_of, asked_net, asked_value, asked_nodes, asked_need, IsAsk, AreRows, AreLonger, TakesAtLeast}
+use Rattle.sota_period.specs.Broad.{AllRead}
+use Rattle.sota_period.proofs.Periods.{is-timed, net-has}
+use Rattle.sota_period.proofs.Best.{Each, best-agree, choice-agree}
 use Rattle.sota_period.proofs.Grid.{value-at_dest, value-elsewhere}
 use Rattle.sota_period.proofs.Gap.{best-within, near}
 
@@ -31,18 +34,18 @@ takes-at ticks net zero a all is = absurd (cc)
 takes-at ticks net (suc k) a all is =
     subst (λ (b : Arc). is_closed b.time ≡ false → ticks ≤ least_tick b.time) (get_or_from_slice_get net.arcs k a a is) (all k a (slice_get_within net.arcs k a is))
 
-pub best-far : NetworkLaws → (net : Net) → IsNet net → (ticks : ℕ) → TakesAtLeast ticks net.arcs → (f g : ℕ → ℕ → ℕ) (i t : ℕ)
-    → ((j u : ℕ) → 1 ≤ j → j ≤ net.nodes → u + ticks ≤ t → f j u ≡ g j u) → best_sum net f i t ≡ best_sum net g i t
-best-far laws net valid ticks takes f g i t agree =
-    best-agree laws net (λ a. plain_sum a f t) (λ a. plain_sum a g t) i
-    (λ e a is tail.
+-- two functions agree at the heads of the arcs that leave node i, at what their least ticks leave
+abbrev Agree : Net → ℕ → ℕ → (ℕ → ℕ → ℕ) → (ℕ → ℕ → ℕ) → Type 0
+Agree net i t f g = (e : ℕ) (a : Arc) → arc_at net e ≡ Some a → a.tail ≡ i → is_closed a.time ≡ false → (u : ℕ) → u + least_tick a.time ≤ t → f a.head u ≡ g a.head u
+
+sums-agree : NetworkLaws → (net : Net) → IsNet net → (f g : ℕ → ℕ → ℕ) (i t : ℕ) → Agree net i t f g → Each net i (λ a. plain_sum a f t ≡ plain_sum a g t)
+sums-agree laws net valid f g i t agree e a is tail =
     let v : IsArc net a = laws.arc net e a valid is in
     laws.sums.agree (f a.head) (g a.head) t a.time
     (λ k d inside within.
     let opened : is_closed a.time ≡ false = laws.ticks.opened a.time k (get_or a.time k d) (slice_get-get_or a.time k d inside) in
-    let late : ticks ≤ least_tick a.time = takes-at ticks net e a takes is opened in
     let least : least_tick a.time ≤ (get_or a.time k d).0 = laws.ticks.least a.time v.time k d inside in
-    agree a.head (t - (get_or a.time k d).0) v.head.0 v.head.1 (omega arith)))
+    agree e a is tail opened (t - (get_or a.time k d).0) (omega arith))
 
 -- ---- the values of an ask
 module _ (laws : NetworkLaws) (ask : Ask) (is : IsAsk ask) where
@@ -56,17 +59,10 @@ module _ (laws : NetworkLaws) (ask : Ask) (is : IsAsk ask) where
   pub nodes-held : (net : Net) (t : ℕ) → (asked_net ask).at t ≡ net → net.nodes ≡ asked_nodes ask
   nodes-held net t here = ap (λ (n : Net). n.nodes) (sym here) ∙ timed.nodes t
 
-  pub rows-held : (net : Net) (t to : ℕ) (values : List ℕ) → (asked_net ask).at t ≡ net → AreRows ask to values → net.nodes * asked_width ask ≤ length values
-  rows-held net t to values here rows =
-      let same : net.nodes * asked_width ask ≡ asked_nodes ask * asked_width ask = ap (λ (n : ℕ). n * asked_width ask) (nodes-held net t here) in
-      omega (arith, rows.count)
-
-  -- the rows at the heads of arcs
-  pub heads-known : (net : Net) (t to : ℕ) (values : List ℕ) → (asked_net ask).at t ≡ net → AreRows ask to values → (e : ℕ) (arc : Arc) (u : ℕ) → arc_at net e ≡ Some arc → u < to
-      → row_value values (asked_width ask) arc.head u ≡ asked_value ask arc.head u
-  heads-known net t to values here rows e arc u number less =
-      let v : IsArc net arc = laws.arc net e arc (valid-held net t here) number in
-      rows.entry arc.head u v.head.0 (omega (arith, v.head.1, nodes-held net t here)) less
+  serves-held : (net : Net) (t : ℕ) → (asked_net ask).at t ≡ net → Serves ask.needs.now ask.dest net
+  serves-held net t here =
+      subst (λ (n : Net). Serves ask.needs.now ask.dest n) here
+      (net-has (λ n. Serves ask.needs.now ask.dest n) ask.timed.now (ask.deadline - t) is.periods.order.some is.periods.order.first is.needs.serves)
 
   whole-by : (bound : Bound) (i t : ℕ) → timed_value (round_of bound) (asked_net ask) ask.dest i t ≤ ONE
   whole-by Lower i t =
@@ -74,7 +70,7 @@ module _ (laws : NetworkLaws) (ask : Ask) (is : IsAsk ask) where
       omega (arith, both.0, both.2)
   whole-by Upper i t = (near laws (asked_net ask) (asked_nodes ask) timed ask.dest i t).2
 
-  pub whole : (i t : ℕ) → asked_value ask i t ≤ ONE
+  whole : (i t : ℕ) → asked_value ask i t ≤ ONE
   whole i t = whole-by ask.bound i t
 
   pub arrived : (t : ℕ) → asked_value ask ask.dest t ≡ ONE
@@ -84,161 +80,206 @@ module _ (laws : NetworkLaws) (ask : Ask) (is : IsAsk ask) where
   rounds Lower scale sum = refl
   rounds Upper scale sum = refl
 
-  module _ (net : Net) (from count : ℕ) (some : 1 ≤ count) (holds : Holds ask net from (from + count)) (takes : TakesAtLeast count net.arcs) (values : List ℕ) (rows : AreRows ask from values) where
-    here : (x : ℕ) → x < count → (asked_net ask).at (from + x) ≡ net
-    here x h = holds (from + x) (omega arith) (omega arith)
+  -- what the rows have of the heads
+  module _ (net : Net) (from ticks : ℕ) (rows : List (Row ℕ)) (are : AreRows ask from rows) (takes : TakesAtLeast ticks net.arcs) (t : ℕ) (here : (asked_net ask).at t ≡ net)
+      (node : ℕ) (off : node ≢ ask.dest) where
+    pub reads : (to : ℕ) → to ≤ from + ticks → to ≤ asked_need ask node → AllRead rows to net node
+    reads to soon needed e a at tail opened =
+        let v : IsArc net a = laws.arc net e a (valid-held net t here) at in
+        let away : a.tail ≢ ask.dest = λ eq. off (sym tail ∙ eq) in
+        let served : asked_need ask a.tail ≤ asked_need ask a.head + least_tick a.time = serves-held net t here e a at opened away in
+        let late : ticks ≤ least_tick a.time = takes-at ticks net e a takes at opened in
+        let same : asked_need ask a.tail ≡ asked_need ask node = ap (asked_need ask) tail in
+        let known : min from (asked_need ask a.head) ≤ length (row_of rows a.head) = are.reach a.head v.head.0 (omega (arith, v.head.1, nodes-held net t here)) in
+        omega (arith, served, late, same, known)
 
-    valid : IsNet net
-    valid = valid-held net (from + 0) (here 0 (omega arith))
+    -- the rows agree with the values
+    agrees : (u : ℕ) → u < from + ticks → u < asked_need ask node → Agree net node u (row_value rows) (asked_value ask)
+    agrees u soon needed e a at tail opened w le =
+        let v : IsArc net a = laws.arc net e a (valid-held net t here) at in
+        let read : u + 1 ≤ least_tick a.time + length (row_of rows a.head) = reads (u + 1) (omega arith) (omega arith) e a at tail opened in
+        are.entry a.head w v.head.0 (omega (arith, v.head.1, nodes-held net t here)) (omega (arith, read, le))
 
-    pub nodes-are : net.nodes ≡ asked_nodes ask
-    nodes-are = nodes-held net (from + 0) (here 0 (omega arith))
+    pub bests-known : (u : ℕ) → u < from + ticks → u < asked_need ask node → best_sum net (row_value rows) node u ≡ best_sum net (asked_value ask) node u
+    bests-known u soon needed =
+        best-agree laws net (λ a. plain_sum a (row_value rows) u) (λ a. plain_sum a (asked_value ask) u) node
+        (sums-agree laws net (valid-held net t here) (row_value rows) (asked_value ask) node u (agrees u soon needed))
 
-    scale-is : net.scale ≡ (asked_net ask).scale
-    scale-is = ap (λ (n : Net). n.scale) (sym (here 0 (omega arith))) ∙ timed.scale (from + 0)
+    pub choice-known : (u : ℕ) → u < from + ticks → u < asked_need ask node → choice_of net.arcs (λ a. plain_sum a (row_value rows) u) node ≡ choice_of net.arcs (λ a. plain_sum a (asked_value ask) u) node
+    choice-known u soon needed =
+        choice-agree laws net (λ a. plain_sum a (row_value rows) u) (λ a. plain_sum a (asked_value ask) u) node
+        (sums-agree laws net (valid-held net t here) (row_value rows) (asked_value ask) node u (agrees u soon needed))
 
-    -- the sums by the table are those of the values
-    pub sums-known : (i x : ℕ) → x < count → best_sum net (row_value values (asked_width ask)) i (from + x) ≡ best_sum net (asked_value ask) i (from + x)
-    sums-known i x h =
-        best-far laws net valid count takes (row_value values (asked_width ask)) (asked_value ask) i (from + x)
-        (λ j u low high early. rows.entry j u low (omega (arith, nodes-are)) (omega arith))
+    pub bests-small : (u : ℕ) → u < from + ticks → u < asked_need ask node → best_sum net (row_value rows) node u ≤ net.scale * ONE
+    bests-small u soon needed =
+        let most : best_sum net (asked_value ask) node u ≤ net.scale * ONE = best-within laws net (valid-held net t here) (asked_value ask) ONE node u (λ j w less. whole j w) in
+        omega (arith, bests-known u soon needed, most)
 
-    pub sums-small : (i x : ℕ) → x < count → best_sum net (row_value values (asked_width ask)) i (from + x) ≤ net.scale * ONE
-    sums-small i x h =
-        let most : best_sum net (asked_value ask) i (from + x) ≤ net.scale * ONE = best-within laws net valid (asked_value ask) ONE i (from + x) (λ j u less. whole j u) in
-        omega (arith, sums-known i x h)
-
-    -- what they are rounded to is the value
-    pub value-here : (i x : ℕ) → x < count → i ≢ ask.dest
-        → rounded_in ask.bound net.scale (best_sum net (row_value values (asked_width ask)) i (from + x)) ≡ asked_value ask i (from + x)
-    value-here i x h off =
+    -- what they are rounded to is the value, where this is the network
+    pub value-here : (u : ℕ) → u < from + ticks → u < asked_need ask node → (asked_net ask).at u ≡ net
+        → rounded_in ask.bound net.scale (best_sum net (row_value rows) node u) ≡ asked_value ask node u
+    value-here u soon needed held =
         rounds ask.bound net.scale _
-        ∙ ap (λ (s : ℕ). round_of ask.bound net.scale s) (sums-known i x h)
-        ∙ ap (λ (n : Net). round_of ask.bound net.scale (best_sum n (asked_value ask) i (from + x))) (sym (here x h))
-        ∙ ap (λ (q : ℕ). round_of ask.bound q (best_sum ((asked_net ask).at (from + x)) (asked_value ask) i (from + x))) scale-is
-        ∙ sym (value-elsewhere laws (asked_net ask) (asked_nodes ask) timed (round_of ask.bound) ask.dest i (from + x) off)
+        ∙ ap (λ (s : ℕ). round_of ask.bound net.scale s) (bests-known u soon needed)
+        ∙ ap (λ (n : Net). round_of ask.bound n.scale (best_sum n (asked_value ask) node u)) (sym held)
+        ∙ ap (λ (q : ℕ). round_of ask.bound q (best_sum ((asked_net ask).at u) (asked_value ask) node u)) (timed.scale u)
+        ∙ sym (value-elsewhere laws (asked_net ask) (asked_nodes ask) timed (round_of ask.bound) ask.dest node u off)
 
-    -- the summers were fed all that the block reads
-    pub all-far : (at : ℕ → Option SummerState) → AllFed (asked_value ask) net (asked_width ask) from at → AllReach net from at → AllFedFar (row_value values (asked_width ask)) net (from + count) at
-    all-far at fed reach e arc state number there =
-        let was : IsFedArc (asked_value ask) arc (asked_width ask) from state = fed e arc state number there in
-        let v : IsArc net arc = laws.arc net e arc valid number in
-        record {
-          open_arc = was.open_arc;
-          fed = record {
-            kernel = was.fed.kernel;
-            values = λ a less. was.fed.values a less ∙ sym (rows.entry arc.head (0 + a) v.head.0 (omega (arith, v.head.1, nodes-are)) (omega (arith, less, was.count)));
-            below = λ u h. absurd (omega arith);
-          };
-          reach = omega (arith, takes-at count net e arc takes number was.open_arc, reach e arc state number there);
-        }
+-- ---- one row longer
+abbrev empty-row : Row ℕ
+empty-row = bank.row_of [] 0
 
--- ---- one row more
--- rows stand one after the other
-pub rows-apart : (w a b s t : ℕ) → a < b → s < w → a * w + s < b * w + t
-rows-apart w a b s t less inside =
-    let over : (a + 1) * w ≤ b * w = mul-le-mul_right w (let y : a + 1 ≤ b = omega arith in y) in
-    omega arith
+module _ (rows : List (Row ℕ)) (node : ℕ) (low : 1 ≤ node) (within : node ≤ length rows) (more : List ℕ) where
+  abbrev pub longer : List (Row ℕ)
+  longer = with_list rows (node - 1) (row_of rows node ++ more)
 
-module _ (ask : Ask) (from count node : ℕ) (values new : List ℕ) (low : 1 ≤ node) (off : node ≢ ask.dest) (dest_low : 1 ≤ ask.dest)
-    (room : from + count ≤ asked_width ask)
-    (before : (p : ℕ) → p < row_place (asked_width ask) node from → slice_index new p ≡ slice_index values p)
-    (after : (p : ℕ) → row_place (asked_width ask) node (from + count) ≤ p → slice_index new p ≡ slice_index values p)
-    (row : (x : ℕ) → x < count → row_value new (asked_width ask) node (from + x) ≡ asked_value ask node (from + x)) where
-  -- the rows of other nodes stay
-  others : (i t : ℕ) → 1 ≤ i → i ≢ node → t < asked_width ask → row_value new (asked_width ask) i t ≡ row_value values (asked_width ask) i t
-  others i t first other inside =
+  row-own : get_or longer (node - 1) empty-row ≡ bank.row_of (row_of rows node ++ more) (row_room rows node)
+  row-own = get_or-set_same rows (node - 1) _ empty-row (omega arith)
+
+  row-other : (i : ℕ) → (i - 1 ≡ node - 1 → ⊥) → get_or longer (i - 1) empty-row ≡ get_or rows (i - 1) empty-row
+  row-other i off = get_or-set_other rows (node - 1) (i - 1) _ empty-row off
+
+  list-own : (i : ℕ) → i - 1 ≡ node - 1 → row_of longer i ≡ row_of rows i ++ more
+  list-own i same =
+      ap (λ (n : ℕ). list_at longer n) same ∙ ap (λ (r : Row ℕ). r.items) row-own ∙ ap (λ (n : ℕ). list_at rows n ++ more) (sym same)
+
+  list-other : (i : ℕ) → (i - 1 ≡ node - 1 → ⊥) → row_of longer i ≡ row_of rows i
+  list-other i off = ap (λ (r : Row ℕ). r.items) (row-other i off)
+
+  cap-same : (i : ℕ) → row_room longer i ≡ row_room rows i
+  cap-same i =
       ⊎_elim
-      (λ (less : i < node). before (row_place (asked_width ask) i t) (rows-apart (asked_width ask) (i - 1) (node - 1) t from (omega arith) inside))
-      (λ (more : node ≤ i).
-      ⊎_elim
-      (λ (under : from + count < asked_width ask).
-      let apart : (node - 1) * asked_width ask + (from + count) < (i - 1) * asked_width ask + t =
-      rows-apart (asked_width ask) (node - 1) (i - 1) (from + count) t (let y : node ≢ i = λ e. other (sym e) in omega arith) under in
-      after (row_place (asked_width ask) i t) (omega arith))
-      (λ (full : asked_width ask ≤ from + count).
-      let next : node - 1 + 1 ≤ i - 1 = (let y : node ≢ i = λ e. other (sym e) in omega arith) in
-      let over : (node - 1 + 1) * asked_width ask ≤ (i - 1) * asked_width ask = mul-le-mul_right (asked_width ask) next in
-      after (row_place (asked_width ask) i t) (omega (arith, over, full, room)))
-      (cases_lt (from + count) (asked_width ask)))
-      (cases_lt i node)
+      (λ (same : i - 1 ≡ node - 1). ap (λ (n : ℕ). cap_at longer n) same ∙ ap (λ (r : Row ℕ). r.cap) row-own ∙ ap (λ (n : ℕ). cap_at rows n) (sym same))
+      (λ (off : i - 1 ≡ node - 1 → ⊥). ap (λ (r : Row ℕ). r.cap) (row-other i off))
+      (cases_eq (i - 1) (node - 1))
 
-  early : (t : ℕ) → t < from → row_value new (asked_width ask) node t ≡ row_value values (asked_width ask) node t
-  early t less = before (row_place (asked_width ask) node t) (omega arith)
-
-  pub step-rows : AreRows ask from values → length new ≡ length values → AreRows ask from new
-  step-rows rows same = record {
-    count = same ∙ rows.count;
-    entry = λ i t first last less.
+  pub are-longer : AreLonger rows longer
+  are-longer = record {
+    count = length-set rows (node - 1) _;
+    room = cap-same;
+    long = λ i.
         ⊎_elim
-        (λ (here : i ≡ node). ap (λ (n : ℕ). row_value new (asked_width ask) n t) here ∙ early t less ∙ ap (λ (n : ℕ). row_value values (asked_width ask) n t) (sym here) ∙ rows.entry i t first last less)
-        (λ (other : i ≡ node → ⊥). others i t first other (omega (arith, room)) ∙ rows.entry i t first last less)
-        (cases_eq i node);
-    arrived = λ t less. others ask.dest t dest_low (λ e. off (sym e)) (omega arith) ∙ rows.arrived t less;
+        (λ (same : i - 1 ≡ node - 1). omega (arith, ap length (list-own i same), length-append (row_of rows i) more))
+        (λ (off : i - 1 ≡ node - 1 → ⊥). omega (arith, ap length (list-other i off)))
+        (cases_eq (i - 1) (node - 1));
+    entry = λ i t less.
+        ⊎_elim
+        (λ (same : i - 1 ≡ node - 1). ap (λ (xs : List ℕ). slice_index xs t) (list-own i same) ∙ get_or_append_left (row_of rows i) more 0 t less)
+        (λ (off : i - 1 ≡ node - 1 → ⊥). ap (λ (xs : List ℕ). slice_index xs t) (list-other i off))
+        (cases_eq (i - 1) (node - 1));
   }
 
-  pub step-done : AreRows ask from values → (k : ℕ) → node ≡ k + 1 → node ≤ asked_nodes ask
-      → ((i t : ℕ) → 1 ≤ i → i ≤ k → t < from + count → row_value values (asked_width ask) i t ≡ asked_value ask i t)
-      → (i t : ℕ) → 1 ≤ i → i ≤ k + 1 → t < from + count → row_value new (asked_width ask) i t ≡ asked_value ask i t
-  step-done rows k next within done i t first last less =
-      ⊎_elim
-      (λ (here : i ≡ node).
-      ⊎_elim
-      (λ (old : t < from).
-      ap (λ (n : ℕ). row_value new (asked_width ask) n t) here ∙ early t old ∙ rows.entry node t low within old ∙ ap (λ (n : ℕ). asked_value ask n t) (sym here))
-      (λ (now : from ≤ t).
-      let place : from + (t - from) ≡ t = omega arith in
-      ap (λ (n : ℕ). row_value new (asked_width ask) n t) here
-      ∙ subst (λ (u : ℕ). row_value new (asked_width ask) node u ≡ asked_value ask node u) place (row (t - from) (omega arith))
-      ∙ ap (λ (n : ℕ). asked_value ask n t) (sym here))
-      (cases_lt t from))
-      (λ (other : i ≡ node → ⊥). others i t first other (omega (arith, room)) ∙ done i t first (omega arith) less)
-      (cases_eq i node)
+  pub own-long : length (row_of longer node) ≡ length (row_of rows node) + length more
+  own-long = ap length (list-own node refl) ∙ length-append (row_of rows node) more
 
--- the destination's row is there already
-pub skip-done : NetworkLaws → (ask : Ask) → IsAsk ask → (from count k node : ℕ) (values : List ℕ) → AreRows ask from values → node ≡ k + 1 → node ≡ ask.dest → from + count ≤ asked_width ask
-    → ((i t : ℕ) → 1 ≤ i → i ≤ k → t < from + count → row_value values (asked_width ask) i t ≡ asked_value ask i t)
-    → (i t : ℕ) → 1 ≤ i → i ≤ k + 1 → t < from + count → row_value values (asked_width ask) i t ≡ asked_value ask i t
-skip-done laws ask is from count k node values rows next at room done i t first last less =
-    ⊎_elim
-    (λ (here : i ≡ ask.dest).
-    ap (λ (n : ℕ). row_value values (asked_width ask) n t) here ∙ rows.arrived t (omega (arith, room)) ∙ sym (arrived laws ask is t) ∙ ap (λ (n : ℕ). asked_value ask n t) (sym here))
-    (λ (other : i ≡ ask.dest → ⊥). done i t first (let y : i ≢ node = λ e. other (e ∙ at) in omega arith) less)
-    (cases_eq i ask.dest)
+  -- the entries stay values where what is appended are values
+  pub entries-longer : (value : ℕ → ℕ → ℕ) (n : ℕ) → ((i t : ℕ) → 1 ≤ i → i ≤ n → t < length (row_of rows i) → row_value rows i t ≡ value i t) → node ≤ n
+      → ((x : ℕ) → x < length more → slice_index more x ≡ value node (length (row_of rows node) + x))
+      → (i t : ℕ) → 1 ≤ i → i ≤ n → t < length (row_of longer i) → row_value longer i t ≡ value i t
+  entries-longer value n entry inside values i t first last less =
+      ⊎_elim
+      (λ (same : i - 1 ≡ node - 1).
+      let one : i ≡ node = omega arith in
+      let list : row_of longer i ≡ row_of rows node ++ more = list-own i same ∙ ap (λ (k : ℕ). row_of rows k ++ more) one in
+      ap (λ (xs : List ℕ). slice_index xs t) list
+      ∙ ⊎_elim
+      (λ (early : t < length (row_of rows node)). get_or_append_left (row_of rows node) more 0 t early ∙ entry node t low inside early ∙ ap (λ (k : ℕ). value k t) (sym one))
+      (λ (late : length (row_of rows node) ≤ t).
+      let place : length (row_of rows node) + (t - length (row_of rows node)) ≡ t = omega arith in
+      let within_more : t - length (row_of rows node) < length more = omega (arith, less, ap length list, length-append (row_of rows node) more) in
+      get_or-append_right (row_of rows node) more (length (row_of rows node)) t 0 refl late
+      ∙ values (t - length (row_of rows node)) within_more
+      ∙ ap (λ (u : ℕ). value node u) place
+      ∙ ap (λ (k : ℕ). value k t) (sym one))
+      (cases_lt t (length (row_of rows node))))
+      (λ (off : i - 1 ≡ node - 1 → ⊥).
+      ap (λ (xs : List ℕ). slice_index xs t) (list-other i off) ∙ entry i t first last (omega (arith, less, ap length (list-other i off))))
+      (cases_eq (i - 1) (node - 1))
 
--- a block that is done
-pub block-rows : (ask : Ask) (from to n : ℕ) (values : List ℕ) → AreRows ask from values → asked_nodes ask ≤ n
-    → ((i t : ℕ) → 1 ≤ i → i ≤ n → t < to → row_value values (asked_width ask) i t ≡ asked_value ask i t) → AreRows ask to values
-block-rows ask from to n values rows all done = record {
-  count = rows.count;
-  entry = λ i t first last less. done i t first (omega arith) less;
-  arrived = rows.arrived;
-}
+  -- rows stay rows where what is appended are values
+  pub rows-longer : (ask : Ask) (from : ℕ) → AreRows ask from rows → ((x : ℕ) → x < length more → slice_index more x ≡ asked_value ask node (length (row_of rows node) + x)) → AreRows ask from longer
+  rows-longer ask from are values = record {
+    count = length-set rows (node - 1) _ ∙ are.count;
+    room = λ i first last. cap-same i ∙ are.room i first last;
+    entry = entries-longer (asked_value ask) (asked_nodes ask) are.entry (omega (arith, are.count)) values;
+    reach = λ i first last. omega (arith, are.reach i first last, are-longer.long i);
+    arrived = omega (arith, are.arrived, are-longer.long ask.dest);
+  }
+
+-- ---- the first rows
+empty-read : (needs : List ℕ) (i : ℕ) → get_or (empty_rows needs) (i - 1) empty-row ≡ bank.row_of [] (need_at needs i)
+empty-read needs i = maps.get_or-map (λ (n : ℕ). bank.row_of [] n) needs (i - 1) 0
+
+empty-row_of : (needs : List ℕ) (i : ℕ) → row_of (empty_rows needs) i ≡ []
+empty-row_of needs i = ap (λ (r : Row ℕ). r.items) (empty-read needs i)
+
+pub first-rows : NetworkLaws → (ask : Ask) → IsAsk ask → (ones : List ℕ) → ones ≡ replicate (asked_need ask ask.dest) ONE
+    → AreRows ask 0 (with_list (empty_rows ask.needs.now) (ask.dest - 1) (row_of (empty_rows ask.needs.now) ask.dest ++ ones))
+first-rows laws ask is ones all =
+    let rows : List (Row ℕ) = empty_rows ask.needs.now in
+    let count : length rows ≡ asked_nodes ask = length-map ask.needs.now (λ (n : ℕ). bank.row_of [] n) ∙ is.needs.count in
+    let inside : ask.dest ≤ length rows = omega (arith, count, is.dest.1) in
+    let none : length (row_of rows ask.dest) ≡ 0 = ap length (empty-row_of ask.needs.now ask.dest) in
+    let many : length ones ≡ asked_need ask ask.dest = ap length all ∙ length-replicate (asked_need ask ask.dest) ONE in
+    record {
+      count = length-set rows (ask.dest - 1) _ ∙ count;
+      room = λ i first last. (are-longer rows ask.dest is.dest.0 inside ones).room i ∙ ap (λ (r : Row ℕ). r.cap) (empty-read ask.needs.now i);
+      entry = entries-longer rows ask.dest is.dest.0 inside ones (asked_value ask) (asked_nodes ask)
+          (λ i t first last less. absurd (omega (arith, less, ap length (empty-row_of ask.needs.now i)))) is.dest.1
+          (λ x less.
+          ap (λ (xs : List ℕ). slice_index xs x) all ∙ get_or-replicate (asked_need ask ask.dest) x ONE 0 (omega (arith, less, many)) ∙ sym (arrived laws ask is (length (row_of rows ask.dest) + x)));
+      reach = λ i first last. omega arith;
+      arrived = omega (arith, own-long rows ask.dest is.dest.0 inside ones, none, many);
+    }
+
+pub needs-fit : (needs : List ℕ) (most nodes : ℕ) → All (λ n. n ≤ most) needs → length needs ≡ nodes → nodes * most ≤ 60000000 → sum needs ≤ 2 ^ 31
+needs-fit needs most nodes all same small =
+    let bound : sum needs ≤ length needs * most = sum_by-le (λ (n : ℕ). n) most needs all in
+    let there : length needs * most ≡ nodes * most = ap (λ (k : ℕ). k * most) same in
+    omega (arith, bound, there, small)
 
 -- ---- the answer
-pub row-inside : (nodes w i t : ℕ) → 1 ≤ i → i ≤ nodes → t < w → row_place w i t < nodes * w
-row-inside nodes w i t low high less =
-    let under : (i - 1 + 1) * w ≤ nodes * w = mul-le-mul_right w (let y : i - 1 + 1 ≤ nodes = omega arith in y) in
-    omega arith
+pub value-read : (ask : Ask) (rows : List (Row ℕ)) (i x : ℕ) → AreRows ask (ask.budget + 1) rows → 1 ≤ i → i ≤ asked_nodes ask → asked_need ask i ≡ ask.budget + 1
+    → x ≡ get_or (row_of rows i) ask.budget x → x ≡ asked_value ask i ask.budget
+value-read ask rows i x are low high need is =
+    let inside : ask.budget < length (row_of rows i) = omega (arith, are.reach i low high, need) in
+    is ∙ get_or_default (row_of rows i) ask.budget x 0 inside ∙ are.entry i ask.budget low high inside
 
-pub value-read : (ask : Ask) (values : List ℕ) (i x : ℕ) → AreRows ask (ask.budget + 1) values → 1 ≤ i → i ≤ asked_nodes ask
-    → x ≡ get_or values (row_place (asked_width ask) i ask.budget) x → x ≡ asked_value ask i ask.budget
-value-read ask values i x rows low high is =
-    let inside : row_place (asked_width ask) i ask.budget < length values = omega (arith, rows.count, row-inside (asked_nodes ask) (asked_width ask) i ask.budget low high (omega arith)) in
-    is ∙ get_or_default values (row_place (asked_width ask) i ask.budget) x 0 inside ∙ rows.entry i ask.budget low high (omega arith)
-
--- the choice by the table is that of the values
-pub next-is : NetworkLaws → (ask : Ask) → IsAsk ask → ask.bound ≡ Lower → (net : Net) → (asked_net ask).at ask.budget ≡ net → (values : List ℕ) → AreRows ask (ask.budget + 1) values
-    → (i : ℕ) → (i ≡ ask.dest → ⊥) → choice_of net.arcs (λ a. plain_sum a (row_value values (asked_width ask)) ask.budget) i ≡ tchoice (asked_net ask) ask.dest i ask.budget
-next-is laws ask is low net here values rows i off =
-    let timed_is : IsTimedNet (asked_net ask) (asked_nodes ask) = is-timed ask.timed.now ask.deadline is.periods in
-    let valid : IsNet net = subst (λ (n : Net). IsNet n) here (timed_is.valid ask.budget) in
-    let nodes : net.nodes ≡ asked_nodes ask = ap (λ (n : Net). n.nodes) (sym here) ∙ timed_is.nodes ask.budget in
-    let lower : (j u : ℕ) → asked_value ask j u ≡ tlo (asked_net ask) ask.dest j u = λ j u. ap (λ (b : Bound). timed_value (round_of b) (asked_net ask) ask.dest j u) low in
-    choice-agree laws net (λ a. plain_sum a (row_value values (asked_width ask)) ask.budget) (λ a. plain_sum a (tlo (asked_net ask) ask.dest) ask.budget) i
-    (λ e a number tail.
-    let v : IsArc net a = laws.arc net e a valid number in
-    laws.sums.same (row_value values (asked_width ask) a.head) (tlo (asked_net ask) ask.dest a.head) ask.budget a.time v.time
-    (λ u less. rows.entry a.head u v.head.0 (omega (arith, v.head.1, nodes)) (omega arith) ∙ lower a.head u))
+-- the choice by the rows is that of the values
+pub next-is : (laws : NetworkLaws) (ask : Ask) (is : IsAsk ask) → ask.bound ≡ Lower → (net : Net) → (asked_net ask).at ask.budget ≡ net → (rows : List (Row ℕ)) → AreRows ask (ask.budget + 1) rows
+    → (i : ℕ) → (i ≡ ask.dest → ⊥) → asked_need ask i ≡ ask.budget + 1 → choice_of net.arcs (λ a. plain_sum a (row_value rows) ask.budget) i ≡ tchoice (asked_net ask) ask.dest i ask.budget
+next-is laws ask is low net here rows are i off need =
+    choice-known laws ask is net (ask.budget + 1) 0 rows are (λ k d less opened. omega arith) ask.budget here i off ask.budget (omega arith) (omega (arith, need))
+    ∙ ap (λ (b : Bound). choice_of net.arcs (λ a. plain_sum a (timed_value (round_of b) (asked_net ask) ask.dest) ask.budget) i) low
     ∙ ap (λ (n : Net). choice_of n.arcs (λ a. plain_sum a (tlo (asked_net ask) ask.dest) ask.budget) i) (sym here)
     ∙ (rw (ne_eqb i ask.dest off) refl)
+
+pub longer-same : (rows : List (Row ℕ)) → AreLonger rows rows
+longer-same rows = record {
+  count = refl;
+  room = λ i. refl;
+  long = λ i. omega arith;
+  entry = λ i t less. refl;
+}
+
+-- a block that is done
+pub block-rows : (ask : Ask) (from to : ℕ) (rows : List (Row ℕ)) → IsAsk ask → AreRows ask from rows
+    → ((k : ℕ) → k < length ask.visited.now → min to (asked_need ask (slice_index ask.visited.now k)) ≤ length (row_of rows (slice_index ask.visited.now k)))
+    → AreRows ask to rows
+block-rows ask from to rows is are done = record {
+  count = are.count;
+  room = are.room;
+  entry = are.entry;
+  reach = λ i first last.
+      ⊎_elim
+      (λ (at : i ≡ ask.dest). subst (λ (n : ℕ). min to (asked_need ask n) ≤ length (row_of rows n)) (sym at) (omega (arith, are.arrived)))
+      (λ (off : i ≡ ask.dest → ⊥).
+      ⊎_elim
+      (λ (some : 0 < asked_need ask i).
+      let found = is.visited.all i first (omega (arith, last, is.needs.count)) off (omega arith) in
+      subst (λ (n : ℕ). min to (asked_need ask n) ≤ length (row_of rows n)) found.2 (done found.0 found.1))
+      (λ (none : asked_need ask i ≤ 0). omega arith)
+      (cases_lt 0 (asked_need ask i)))
+      (cases_eq i ask.dest);
+  arrived = are.arrived;
+}

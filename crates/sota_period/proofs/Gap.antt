@@ -6,7 +6,6 @@ use Rattle.sota_units.specs.Rounding.{ONE, floor_by, ceiling_by}
 use Rattle.sota_hist.specs.Time.{total}
 use Rattle.sota_network.specs.Network.{Net, IsNet, IsArc}
 use Rattle.sota_network.specs.Grid.{plain_sum, best_sum}
-use Rattle.sota_network.specs.declared.network.Arc.{Arc}
 use Rattle.sota_period.specs.Laws.{NetworkLaws}
 use Rattle.sota_period.specs.Periods.{TimedNet, IsTimedNet}
 use Rattle.sota_period.specs.Grid.{tlo, thi}

@@ -1,15 +1,13 @@
 -- The grid of a timed network satisfies its recursion: each step reads only smaller budgets.
-use Rattle.std.proofs.Common.{ℕ, zero, suc, ◌≡◌, ◌+◌, ◌-◌, ◌<◌, ◌≤◌, refl, sym, ◌∙◌, ap, arith, ◌==◌, if◌then◌else◌}
+use Rattle.std.proofs.Common.{ℕ, zero, suc, ◌≡◌, ◌<◌, refl, sym, ◌∙◌, ap, arith, ◌==◌, if◌then◌else◌}
 use Rattle.std.proofs.lemmas.Bool.{eq-eqb, ne_eqb}
 use Rattle.sota_units.specs.Rounding.{ONE}
 use Rattle.sota_network.specs.Network.{Net, IsNet, IsArc}
-use Rattle.sota_network.specs.Grid.{plain_sum, best_sum, choice_of, value_from}
-use Rattle.sota_network.specs.declared.network.Arc.{Arc}
+use Rattle.sota_network.specs.Grid.{plain_sum, best_sum, choice_of, Causal}
 use Rattle.sota_period.specs.Laws.{NetworkLaws}
 use Rattle.sota_period.specs.Periods.{TimedNet, IsTimedNet}
 use Rattle.sota_period.specs.Grid.{timed_step, timed_value}
 use Rattle.sota_period.proofs.Best.{best-agree, choice-agree, Each}
-use Rattle.sota_period.proofs.Budget.{Causal, by_budget-is}
 
 -- sums read only smaller budgets
 pub sums-agree : NetworkLaws → (net : Net) → IsNet net → (f g : ℕ → ℕ → ℕ) (i t : ℕ)
@@ -40,7 +38,7 @@ module _ (laws : NetworkLaws) (net : TimedNet) (nodes : ℕ) (is : IsTimedNet ne
 
   pub value-is : (i t : ℕ) → timed_value round net dest i t ≡ timed_step round net dest (timed_value round net dest) i t
   unfolding timed_value
-  value-is i t = by_budget-is 0 (timed_step round net dest) step-causal i t
+  value-is i t = laws.settles 0 (timed_step round net dest) step-causal i t
 
   pub value-at_dest : (i t : ℕ) → i ≡ dest → timed_value round net dest i t ≡ ONE
   value-at_dest i t at = value-is i t ∙ (rw (eq-eqb i dest at) refl)

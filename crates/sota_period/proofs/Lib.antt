@@ -1,5 +1,3 @@
-pub mod Budget
-pub mod Rounding
 pub mod Best
 pub mod Grid
 pub mod Pairs
@@ -9,8 +7,8 @@ pub mod Gap
 pub mod Periods
 pub mod Single
 pub mod Scales
-pub mod Spans
-pub mod Among
 pub mod Filling
 pub mod Feeding
 pub mod Orders
+pub mod Soonest
+pub mod Extending

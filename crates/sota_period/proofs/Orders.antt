@@ -1,5 +1,5 @@
 -- One and two periods that follow one another.
-use Rattle.std.proofs.Common.{ℕ, zero, suc, ◌≡◌, ◌+◌, ◌<◌, ◌≤◌, List, [], ◌∷◌, refl, arith}
+use Rattle.std.proofs.Common.{ℕ, zero, suc, ◌+◌, ◌<◌, ◌≤◌, [], ◌∷◌, refl, arith}
 use Rattle.std.proofs.lemmas.List.Elements.{All-cons}
 use Rattle.sota_network.specs.Network.{Net}
 use Rattle.sota_period.specs.Periods.{AreInOrder, HasRoadsOf, start_at}

@@ -1,10 +1,10 @@
 -- Which period holds, and what holds of all of them.
-use Rattle.std.proofs.Common.{ℕ, zero, suc, ◌≡◌, ◌+◌, ◌-◌, ◌<◌, ◌≤◌, nat_le, Bool, true, false, List, [], ◌∷◌, length, get_or, slice_index_or, refl, sym, ◌∙◌, ap, arith, ⊎_elim}
+use Rattle.std.proofs.Common.{ℕ, zero, suc, ◌≡◌, ◌-◌, ◌<◌, ◌≤◌, nat_le, Bool, true, false, List, [], ◌∷◌, length, slice_index_or, refl, arith, ⊎_elim}
 use Rattle.std.specs.List.{All, filter}
 use Rattle.std.proofs.lemmas.Bool.{cases_Bool, cases_lt, le-leb, lt-leb}
 use Rattle.std.proofs.lemmas.List.Elements.{All-head, All-tail, All-weaker}
 use Rattle.sota_network.specs.Network.{Net, IsNet}
-use Rattle.sota_period.specs.Periods.{TimedNet, IsTimedNet, ArePeriods, HasRoadsOf, no_net, last_net, net_at, first_net, timed_net, start_at}
+use Rattle.sota_period.specs.Periods.{IsTimedNet, ArePeriods, HasRoadsOf, no_net, last_net, net_at, first_net, timed_net, start_at}
 
 module _ (P : Net → Type 0) (test : ℕ × Net → Bool) where
   -- what holds of all networks holds of the last that passes

@@ -1,12 +1,12 @@
 -- With one period the grid is that of its network.
-use Rattle.std.proofs.Common.{ℕ, suc, ◌≡◌, ◌-◌, ◌<◌, ◌≤◌, [], ◌∷◌, None, refl, sym, ◌∙◌, ap, arith, ◌==◌, if◌then◌else◌, Option}
+use Rattle.std.proofs.Common.{ℕ, suc, ◌≡◌, ◌-◌, ◌≤◌, [], ◌∷◌, None, refl, sym, ◌∙◌, ap, arith, ◌==◌, if◌then◌else◌, Option}
 use Rattle.std.proofs.lemmas.Bool.{le-leb}
-use Rattle.sota_units.specs.Rounding.{ONE, floor_by, ceiling_by}
+use Rattle.sota_units.specs.Rounding.{floor_by, ceiling_by}
 use Rattle.sota_network.specs.Network.{Net, IsNet}
-use Rattle.sota_network.specs.Grid.{best_sum, choice_of, plain_sum, value_from, lo, hi, choice}
+use Rattle.sota_network.specs.Grid.{choice_of, plain_sum, value_from, lo, hi, choice}
 use Rattle.sota_period.specs.Laws.{NetworkLaws}
 use Rattle.sota_period.specs.Periods.{TimedNet, IsTimedNet, net_at, timed_net}
-use Rattle.sota_period.specs.Grid.{timed_step, timed_value, tlo, thi, tchoice}
+use Rattle.sota_period.specs.Grid.{timed_value, tlo, thi, tchoice}
 use Rattle.sota_period.proofs.Grid.{value-only, choice-reads}
 
 -- the only period holds always

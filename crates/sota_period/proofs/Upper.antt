@@ -1,9 +1,9 @@
 -- No tree scores more than the upper value.
-use Rattle.std.proofs.Common.{ℕ, ◌≡◌, ◌+◌, ◌-◌, ◌*◌, ◌^◌, ◌<◌, ◌≤◌, List, [], ◌∷◌, Some, refl, ◌∙◌, ap, arith, ⊎_elim}
+use Rattle.std.proofs.Common.{ℕ, ◌≡◌, ◌+◌, ◌-◌, ◌*◌, ◌^◌, ◌≤◌, List, [], ◌∷◌, Some, refl, arith, ⊎_elim}
 use Rattle.std.proofs.lemmas.Bool.{eq-eqb, ne_eqb, cases_eq}
 use Rattle.sota_units.specs.Rounding.{ONE, ceiling_by}
 use Rattle.sota_hist.specs.Time.{within}
-use Rattle.sota_network.specs.Network.{Net, IsNet, IsArc, arc_at}
+use Rattle.sota_network.specs.Network.{IsArc, arc_at}
 use Rattle.sota_network.specs.Grid.{plain_sum, best_sum}
 use Rattle.sota_network.specs.Trees.{Tree, Trees, stop, go, no_trees, tree_then}
 use Rattle.sota_network.specs.declared.network.Arc.{Arc}
@@ -14,7 +14,6 @@ use Rattle.sota_period.specs.Trees.{TimedFits, AllTimedFit, tscore, tscores}
 use Rattle.sota_period.proofs.Best.{best-has}
 use Rattle.sota_period.proofs.Grid.{value-at_dest, value-elsewhere}
 use Rattle.sota_period.proofs.Pairs.{Inside, within-inside, weight, weight-cons}
-use Rattle.sota_period.proofs.Rounding.{power-parts, step-up, close-up}
 
 pub score-at_dest : (net : TimedNet) (dest i t : ℕ) (tree : Tree) → i ≡ dest → tscore net dest i t tree ≡ net.scale ^ t
 unfolding tscore
@@ -62,7 +61,7 @@ module _ (laws : NetworkLaws) (net : TimedNet) (nodes : ℕ) (is : IsTimedNet ne
         let sum : ONE * tscores net dest a.head t (within t a.time) trees * net.scale ≤ weight (thi net dest a.head) t (within t a.time) * net.scale ^ t = uppers trees (within t a.time) a.head t fits.3 (within-inside t 0 a.time v.time) in
         let has : plain_sum a (thi net dest) t ≤ best_sum (net.at t) (thi net dest) i t = best-has laws (net.at t) (λ b. plain_sum b (thi net dest) t) i e a fits.1 fits.2 in
         rw (score-go net dest i t e a trees off fits.1, value-elsewhere laws net nodes is ceiling_by dest i t off)
-        (close-up ONE net.scale (tscores net dest a.head t (within t a.time) trees) (plain_sum a (thi net dest) t) (best_sum (net.at t) (thi net dest) i t) _ (net.scale ^ t) (scale-positive net nodes is) sum has (laws.rounding.up net.scale _ (scale-positive net nodes is))))
+        (laws.pairs.node_above ONE net.scale (tscores net dest a.head t (within t a.time) trees) (plain_sum a (thi net dest) t) (ceiling_by net.scale (best_sum (net.at t) (thi net dest) i t)) (net.scale ^ t) (scale-positive net nodes is) sum (omega (arith, has, laws.rounding.up net.scale (best_sum (net.at t) (thi net dest) i t) (scale-positive net nodes is)))))
         (cases_eq i dest)
 
     pub uppers : (trees : Trees) (ps : List (ℕ × ℕ)) (j t : ℕ) → AllTimedFit net j t ps trees → Inside t ps
@@ -73,6 +72,6 @@ module _ (laws : NetworkLaws) (net : TimedNet) (nodes : ℕ) (is : IsTimedNet ne
     uppers (tree_then child rest) (p ∷ ps) j t fits r =
         let more : ONE * tscores net dest j t ps rest * net.scale ≤ weight (thi net dest j) t ps * net.scale ^ t = uppers rest ps j t fits.1 r.2 in
         let here : ONE * tscore net dest j (t - p.0) child ≤ thi net dest j (t - p.0) * net.scale ^ (t - p.0) = upper child j (t - p.0) fits.0 in
-        let parts : net.scale ^ t ≡ net.scale ^ (p.0 - 1) * net.scale * net.scale ^ (t - p.0) = power-parts net.scale p.0 t r.0 r.1 in
+        let parts : net.scale ^ t ≡ net.scale ^ (p.0 - 1) * net.scale * net.scale ^ (t - p.0) = laws.pairs.parts net.scale p.0 t r.0 r.1 in
         rw (scores-more net dest j t p ps child rest, weight-cons (thi net dest j) t p ps)
-        (step-up ONE p.1 net.scale _ _ _ _ _ _ _ parts here more)
+        (laws.pairs.above ONE p.1 net.scale _ _ _ _ _ _ _ parts here more)

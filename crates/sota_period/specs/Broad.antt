@@ -1,13 +1,16 @@
 -- The summers of broad arcs, and what they were fed.
-use Rattle.std.specs.Prelude.{ℕ, ◌≡◌, ◌+◌, ◌-◌, ◌<◌, ◌≤◌, max, nat_lt, false, List, [], length}
-use Rattle.std.specs.Prelude.{slice_index_or, Option, None, Some, Box, if◌then◌else◌}
+use Rattle.std.specs.Prelude.{ℕ, ◌≡◌, ◌+◌, ◌-◌, ◌<◌, ◌≤◌, ◌&&◌, max, nat_lt, Bool, false, List, []}
+use Rattle.std.specs.Prelude.{length, slice_index_or, Option, None, Some, Box, if◌then◌else◌}
 use Rattle.std.specs.declared.alloc.Global.{Global}
+use Rattle.sota_bank.specs.Rows.{Row}
 use Rattle.sota_hist.specs.Time.{is_closed, least_tick, within}
 use Rattle.sota_network.specs.Network.{Net, arc_at}
 use Rattle.sota_network.specs.Region.{NARROW}
 use Rattle.sota_network.specs.declared.network.Arc.{Arc}
 use Rattle.sota_online.specs.Summer.{SummerState, kernel_of}
-use Rattle.sota_fill.specs.Fed.{IsFed}
+use Rattle.sota_fill.specs.Fed.{IsFed, IsSameSummer}
+use Rattle.sota_period.specs.Needs.{need_at}
+use Rattle.sota_period.specs.Rows.{row_of, row_value, row_room}
 
 -- the summers that stand for each arc by its number, where it has one
 abbrev pub SummerList : Type 0 → Type 0
@@ -21,52 +24,77 @@ state_of state (Some summer) = Some (state summer.value)
 abbrev pub state_at : {Z : Type 0} → (Z → SummerState) → SummerList Z → ℕ → Option SummerState
 state_at state broad e = state_of state (slice_index_or broad (e - 1) None)
 
--- a summer of an arc that was fed nothing yet, with room for so many values
-abbrev pub unfed : ℕ → Arc → SummerState
-unfed width arc = record { kernel = kernel_of width arc.time; values = []; room = width }
+-- whether the sums of an arc are made by a summer: its tail needs a budget from `from` on, and the
+-- arc has more than 32 ticks within what its tail needs
+abbrev pub is_summed : List ℕ → ℕ → Arc → Bool
+is_summed needs from arc = nat_lt from (need_at needs arc.tail)
+    && nat_lt NARROW (length (within (need_at needs arc.tail - 1) arc.time))
 
--- such a summer where an arc has more than 32 ticks within the budget
-abbrev pub first_state : ℕ → Arc → Option SummerState
-first_state budget arc =
-    if nat_lt NARROW (length (within budget arc.time)) then Some (unfed (budget + 1) arc)
-    else None
+-- a summer of an arc that was fed nothing yet, with room for so many values, whose sums are read at
+-- the budgets from one on
+abbrev pub unfed : ℕ → ℕ → Arc → SummerState
+unfed width from arc = record {
+  kernel = kernel_of width arc.time;
+  values = [];
+  room = width;
+  start = from + 1 - least_tick arc.time;
+}
+
+-- such a summer where it is wanted, with room for what the head needs
+abbrev pub first_state : List ℕ → ℕ → Arc → Option SummerState
+first_state needs from arc =
+    if is_summed needs from arc then Some (unfed (need_at needs arc.head) from arc) else None
+
+-- how long the kernel of a summer is, 0 where there is none
+abbrev pub kernel_places : Option SummerState → ℕ
+kernel_places None = 0
+kernel_places (Some state) = length state.kernel
+
+-- there is room to work for it
+abbrev pub IsWorkFor : ℕ → Option SummerState → Type 0
+IsWorkFor places state = kernel_places state ≤ places
+
+-- the sums of an arc's summer may be read at the budgets from one on, and there is room to work
+-- for its kernel
+pub record IsReady (arc : Arc) (from places : ℕ) (state : SummerState) : Type 0 where
+  pub start : state.start ≤ from + 1 - least_tick arc.time
+  pub work : length state.kernel ≤ places
+
+-- the same of all summers
+abbrev pub AllReady : Net → ℕ → ℕ → (ℕ → Option SummerState) → Type 0
+AllReady net from places at = (e : ℕ) (arc : Arc) (state : SummerState) → arc_at net e ≡ Some arc
+    → at e ≡ Some state → IsReady arc from places state
+
+-- the summers that stand there now are those that stood there before, but for what they were fed
+abbrev pub AreSame : (ℕ → Option SummerState) → (ℕ → Option SummerState) → Type 0
+AreSame before after = (e : ℕ) (state : SummerState) → 1 ≤ e → after e ≡ Some state
+    → (was : SummerState) × (before e ≡ Some was) × IsSameSummer was state
 
 -- a summer was fed on, the given values, until so many are fed
 pub record IsFedOn (value : ℕ → ℕ) (to : ℕ) (old new : SummerState) : Type 0 where
   pub fed : (time : List (ℕ × ℕ)) (f : ℕ → ℕ) → IsFed old time 0 f
       → ((a : ℕ) → a < to → value a ≡ f a) → IsFed new time 0 f
   pub count : length new.values ≡ max (length old.values) to
-  pub total : length new.values + new.room ≡ length old.values + old.room
+  pub same : IsSameSummer old new
 
--- the summer that stands there now, where one stood there before
-abbrev pub FedOnAt : (ℕ → ℕ) → ℕ → SummerState → Option SummerState → Type 0
-FedOnAt value to old found = (new : SummerState) × (found ≡ Some new) × IsFedOn value to old new
-
--- the summer of an open arc that was fed the values of f at its head, at budgets below `to`, and
--- can be fed all others below the width
-pub record IsFedArc (f : ℕ → ℕ → ℕ) (arc : Arc) (width to : ℕ) (state : SummerState) : Type 0 where
+-- the summer of an open arc was fed values of its head's row, and has room for the row
+pub record IsFedArc (rows : List (Row ℕ)) (arc : Arc) (state : SummerState) : Type 0 where
   pub open_arc : is_closed arc.time ≡ false
-  pub fed : IsFed state arc.time 0 (f arc.head)
-  pub count : length state.values ≤ to
-  pub total : length state.values + state.room ≡ width
+  pub fed : IsFed state arc.time 0 (row_value rows arc.head)
+  pub count : length state.values ≤ length (row_of rows arc.head)
+  pub total : length state.values + state.room ≡ row_room rows arc.head
 
 -- the same of all summers
-abbrev pub AllFed : (ℕ → ℕ → ℕ) → Net → ℕ → ℕ → (ℕ → Option SummerState) → Type 0
-AllFed f net width to at = (e : ℕ) (arc : Arc) (state : SummerState) → arc_at net e ≡ Some arc
-    → at e ≡ Some state → IsFedArc f arc width to state
+abbrev pub AllFed : List (Row ℕ) → Net → (ℕ → Option SummerState) → Type 0
+AllFed rows net at = (e : ℕ) (arc : Arc) (state : SummerState) → arc_at net e ≡ Some arc
+    → at e ≡ Some state → IsFedArc rows arc state
 
--- all summers were fed so far
-abbrev pub AllReach : Net → ℕ → (ℕ → Option SummerState) → Type 0
-AllReach net to at = (e : ℕ) (arc : Arc) (state : SummerState) → arc_at net e ≡ Some arc
-    → at e ≡ Some state → to ≤ length state.values
+-- what the sums of an open arc read at budgets below `to` stands in its head's row
+abbrev pub IsRead : List (Row ℕ) → ℕ → Arc → Type 0
+IsRead rows to arc = is_closed arc.time ≡ false
+    → to ≤ least_tick arc.time + length (row_of rows arc.head)
 
--- a summer of an arc that was fed all that the budgets below `to` read, out of the values of f
-pub record IsFedFar (f : ℕ → ℕ → ℕ) (arc : Arc) (to : ℕ) (state : SummerState) : Type 0 where
-  pub open_arc : is_closed arc.time ≡ false
-  pub fed : IsFed state arc.time 0 (f arc.head)
-  pub reach : to ≤ least_tick arc.time + length state.values
-
--- the same of all summers
-abbrev pub AllFedFar : (ℕ → ℕ → ℕ) → Net → ℕ → (ℕ → Option SummerState) → Type 0
-AllFedFar f net to at = (e : ℕ) (arc : Arc) (state : SummerState) → arc_at net e ≡ Some arc
-    → at e ≡ Some state → IsFedFar f arc to state
+-- the same of all arcs that leave node i
+abbrev pub AllRead : List (Row ℕ) → ℕ → Net → ℕ → Type 0
+AllRead rows to net i = (e : ℕ) (arc : Arc) → arc_at net e ≡ Some arc → arc.tail ≡ i
+    → IsRead rows to arc

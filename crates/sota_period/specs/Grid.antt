@@ -1,8 +1,7 @@
 -- The grid of a network whose times depend on the clock: at each budget the pairs of an arc are
 -- those that hold when so much is left.
-use Rattle.std.specs.Prelude.{ℕ, ◌-◌, ◌==◌, Option, None, Some, if◌then◌else◌}
+use Rattle.std.specs.Prelude.{ℕ, ◌==◌, Option, None, if◌then◌else◌}
 use Rattle.sota_units.specs.Rounding.{floor_by, ceiling_by}
-use Rattle.sota_network.specs.Network.{Net}
 use Rattle.sota_network.specs.Grid.{by_budget, value_from, choice_of, plain_sum}
 use Rattle.sota_period.specs.Periods.{TimedNet}
 

@@ -3,6 +3,7 @@ pub mod Trees
 pub mod Grid
 pub mod Answers
 pub mod Laws
+pub mod Needs
 pub mod Rows
 pub mod Broad
 pub mod Examples

@@ -1,24 +1,31 @@
--- Tables of the values of all nodes, with one row for each node.
-use Rattle.std.specs.Prelude.{ℕ, ◌≡◌, ◌+◌, ◌-◌, ◌*◌, ◌<◌, ◌≤◌, false, List, length, slice_index}
-use Rattle.std.specs.Prelude.{slice_index_or}
-use Rattle.std.specs.List.{All}
-use Rattle.sota_units.specs.Rounding.{ONE, floor_by, ceiling_by}
+-- The rows of values of all nodes.
+use Rattle.std.specs.Prelude.{ℕ, ◌≡◌, ◌+◌, ◌-◌, ◌^◌, ◌<◌, ◌≤◌, min, false, List, length}
+use Rattle.std.specs.Prelude.{slice_index}
+use Rattle.std.specs.List.{All, sum}
+use Rattle.sota_units.specs.Rounding.{floor_by, ceiling_by}
 use Rattle.sota_units.specs.Limits.{BUDGET_LIMIT}
+use Rattle.sota_bank.specs.Rows.{Row, list_at, cap_at}
 use Rattle.sota_hist.specs.Time.{is_closed, least_tick}
 use Rattle.sota_network.specs.Network.{Net, IsNode}
 use Rattle.sota_network.specs.declared.network.Arc.{Arc}
 use Rattle.sota_sums.specs.declared.bound.Bound.{Bound}
 use Rattle.sota_sums.specs.declared.bound.Bound.TheVariants.{Lower, Upper}
-use Rattle.sota_period.specs.Periods.{TimedNet, ArePeriods, first_net, no_net, timed_net}
+use Rattle.sota_period.specs.Periods.{TimedNet, ArePeriods, first_net, timed_net}
+use Rattle.sota_period.specs.Needs.{AreNeeds, AreVisited, need_at}
 use Rattle.sota_period.specs.Grid.{timed_value}
 use Rattle.sota_period.specs.declared.ask.Ask.{Ask}
 
--- where the value of node i at budget t stands in a table of rows of this width
-abbrev pub row_place : ℕ → ℕ → ℕ → ℕ
-row_place width i t = (i - 1) * width + t
+-- the row of node i: its values at budgets from 0 on
+abbrev pub row_of : List (Row ℕ) → ℕ → List ℕ
+row_of rows i = list_at rows (i - 1)
 
-abbrev pub row_value : List ℕ → ℕ → ℕ → ℕ → ℕ
-row_value values width i t = slice_index values (row_place width i t)
+-- the value of node i at budget t, 0 where its row ends before
+abbrev pub row_value : List (Row ℕ) → ℕ → ℕ → ℕ
+row_value rows i t = slice_index (row_of rows i) t
+
+-- how many values its row can have
+abbrev pub row_room : List (Row ℕ) → ℕ → ℕ
+row_room rows i = cap_at rows (i - 1)
 
 -- the rounding of a bound
 abbrev pub round_of : Bound → ℕ → ℕ → ℕ
@@ -32,12 +39,12 @@ asked_net ask = timed_net ask.timed.now ask.deadline
 abbrev pub asked_value : Ask → ℕ → ℕ → ℕ
 asked_value ask i t = timed_value (round_of ask.bound) (asked_net ask) ask.dest i t
 
--- the nodes of its network, and the budgets from 0 up to its own
+-- the nodes of its network, and how many budgets each needs
 abbrev pub asked_nodes : Ask → ℕ
 asked_nodes ask = (first_net ask.timed.now).nodes
 
-abbrev pub asked_width : Ask → ℕ
-asked_width ask = ask.budget + 1
+abbrev pub asked_need : Ask → ℕ → ℕ
+asked_need ask i = need_at ask.needs.now i
 
 -- an ask within the limits
 pub record IsAsk (ask : Ask) : Type 0 where
@@ -45,14 +52,27 @@ pub record IsAsk (ask : Ask) : Type 0 where
   pub dest : IsNode (first_net ask.timed.now) ask.dest
   pub budget : ask.budget ≤ BUDGET_LIMIT
   pub deadline : ask.budget ≤ ask.deadline
+  pub needs : AreNeeds ask.timed.now ask.dest (ask.budget + 1) ask.needs.now
+  pub total : sum ask.needs.now ≤ 2 ^ 31
+  pub visited : AreVisited ask.needs.now ask.dest ask.visited.now
 
--- a table that has the values of all nodes at the budgets below one, and those of the destination
--- at all
-pub record AreRows (ask : Ask) (upto : ℕ) (values : List ℕ) : Type 0 where
-  pub count : length values ≡ asked_nodes ask * asked_width ask
-  pub entry : (i t : ℕ) → 1 ≤ i → i ≤ asked_nodes ask → t < upto
-      → row_value values (asked_width ask) i t ≡ asked_value ask i t
-  pub arrived : (t : ℕ) → t ≤ ask.budget → row_value values (asked_width ask) ask.dest t ≡ ONE
+-- rows with room for what each node needs. All their entries are values, and each has those at the
+-- budgets below one that its node needs, and that of the destination all
+pub record AreRows (ask : Ask) (upto : ℕ) (rows : List (Row ℕ)) : Type 0 where
+  pub count : length rows ≡ asked_nodes ask
+  pub room : (i : ℕ) → 1 ≤ i → i ≤ asked_nodes ask → row_room rows i ≡ asked_need ask i
+  pub entry : (i t : ℕ) → 1 ≤ i → i ≤ asked_nodes ask → t < length (row_of rows i)
+      → row_value rows i t ≡ asked_value ask i t
+  pub reach : (i : ℕ) → 1 ≤ i → i ≤ asked_nodes ask
+      → min upto (asked_need ask i) ≤ length (row_of rows i)
+  pub arrived : asked_need ask ask.dest ≤ length (row_of rows ask.dest)
+
+-- rows that begin with those of before
+pub record AreLonger (old new : List (Row ℕ)) : Type 0 where
+  pub count : length new ≡ length old
+  pub room : (i : ℕ) → row_room new i ≡ row_room old i
+  pub long : (i : ℕ) → length (row_of old i) ≤ length (row_of new i)
+  pub entry : (i t : ℕ) → t < length (row_of old i) → row_value new i t ≡ row_value old i t
 
 -- at these budgets this is the network
 abbrev pub Holds : Ask → Net → ℕ → ℕ → Type 0

@@ -1,10 +1,10 @@
 -- Decision trees over a network whose times depend on the clock, and their on-time probability.
 -- Each traversal of an arc draws its time afresh, from the pairs that hold where it begins.
 use Rattle.std.specs.Prelude.{ℕ, ◌≡◌, ◌+◌, ◌-◌, ◌*◌, ◌^◌, ◌≤◌, ◌==◌, List, [], ◌∷◌}
-use Rattle.std.specs.Prelude.{Option, None, Some, if◌then◌else◌}
+use Rattle.std.specs.Prelude.{None, Some, if◌then◌else◌}
 use Rattle.sota_units.specs.Rounding.{ONE}
 use Rattle.sota_hist.specs.Time.{within}
-use Rattle.sota_network.specs.Network.{Net, arc_at}
+use Rattle.sota_network.specs.Network.{arc_at}
 use Rattle.sota_network.specs.Trees.{Tree, Trees, stop, go, no_trees, tree_then}
 use Rattle.sota_network.specs.declared.network.Arc.{Arc}
 use Rattle.sota_period.specs.Periods.{TimedNet}

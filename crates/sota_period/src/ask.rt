@@ -4,7 +4,8 @@ use sota_sums::Bound;
 use sota_units::NodeId;
 
 /// The values of one bound towards a destination, at the budgets in ticks from 0 up to one. Where
-/// that budget ends the clock shows the deadline.
+/// that budget ends the clock shows the deadline. Of each node the values at as many budgets as its
+/// need are wanted, and `visited` are the nodes with a need besides the destination.
 #[derive(Clone, Copy)]
 pub(crate) struct Ask<'a> {
     pub(crate) timed: &'a Timed,
@@ -12,4 +13,6 @@ pub(crate) struct Ask<'a> {
     pub(crate) budget: u32,
     pub(crate) deadline: u32,
     pub(crate) bound: Bound,
+    pub(crate) needs: &'a [u32],
+    pub(crate) visited: &'a [NodeId],
 }

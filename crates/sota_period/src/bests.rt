@@ -1,67 +1,75 @@
 // The greatest sums of a node at budgets in a row.
-ghost use Rattle.std.specs.Prelude.{ℕ, ◌≡◌, ◌+◌, ◌*◌, ◌<◌, ◌≤◌, max, length, slice_index};
+ghost use Rattle.std.specs.Prelude.{ℕ, ◌≡◌, ◌+◌, ◌<◌, ◌≤◌, max, Some, length, slice_index};
 ghost use Rattle.sota_units.specs.Limits.{BUDGET_LIMIT};
 ghost use Rattle.sota_hist.specs.Time.{IsTime};
 ghost use Rattle.sota_network.specs.Network.{IsNode, arc_at};
 ghost use Rattle.sota_network.specs.declared.network.Arc.{Arc};
 ghost use Rattle.sota_network.specs.Grid.{plain_sum, best_sum, choice_of};
 ghost use Rattle.sota_period.specs.Rows.{row_value};
-ghost use Rattle.sota_period.specs.Broad.{AllFedFar, state_at};
+ghost use Rattle.sota_period.specs.Broad.{AllFed, AllRead, AllReady, AreSame, IsRead, state_at};
 
-use crate::broad::summer_of;
+use crate::broad::{feed_arc, summer_of};
 use crate::table::row_of;
+use sota_bank::RowBank;
 use sota_fill::broad_sums;
-use sota_network::laws::{arcs_by_number, numbers_of_arcs, sums_and_scores};
+use sota_network::laws::{arcs_by_number, arcs_one_by_one, sums_and_scores};
 use sota_network::{Arc, Network};
-use sota_online::Summer;
+use sota_online::{Summer, Workspace};
 use sota_sums::arc_sums;
-use sota_units::{ArcId, Grain, NodeId};
+use sota_units::{ArcId, Grain, NodeId, Steps};
+use std::sync::ledger::Ledger;
 
 /// The sums of an arc at budgets in a row, from `from` on, by the row of its head.
-fn head_sums(arc: &Arc, values: &[Grain], width: usize, from: usize, into: &mut [u128])
+fn head_sums(arc: &Arc, rows: &RowBank<Grain>, from: usize, into: &mut [u128])
     requires time { IsTime arc.now.time }
-    requires head { (1 ≤ arc.now.head) × (arc.now.head * width ≤ length values.now) }
-    requires room { from + length into.old ≤ width }
-    requires width { width ≤ BUDGET_LIMIT + 1 }
+    requires head { (1 ≤ arc.now.head) × (arc.now.head ≤ length rows.now) }
+    requires limit { from + length into.old ≤ BUDGET_LIMIT + 1 }
     ensures sums { (x : ℕ) → x < length into.old → slice_index into.new x
-        ≡ plain_sum arc.now (row_value values.now width) (from + x) }
+        ≡ plain_sum arc.now (row_value rows.now) (from + x) }
     ensures room { length into.new ≡ length into.old }
 {
     sums_and_scores();
-    let row = row_of(values, width, arc.head);
+    let row = row_of(rows, arc.head);
     arc_sums(&arc.time, row, 0, from as u32, into);
 }
 
-/// The sums of an arc at budgets in a row: by its summer where it has one, else by the row of its
-/// head.
-fn sums_of<Z: Summer>(
+/// The sums of an arc at budgets in a row: by its summer where it has one, which is fed its head's
+/// row before, else by that row.
+fn sums_of<Z: Summer, M: Ledger>(
     network: &Network,
     number: ArcId,
-    values: &[Grain],
-    width: usize,
-    broad: &[Option<Box<Z>>],
+    rows: &RowBank<Grain>,
+    broad: &mut [Option<Box<Z>>],
     from: usize,
     into: &mut [u128],
+    workspace: &mut Workspace,
+    products: &mut Steps<M>,
 )
     requires number { (1 ≤ number) × (number ≤ length network.now.arcs) }
-    requires broad { length broad.now ≡ length network.now.arcs }
-    requires rows { network.now.nodes * width ≤ length values.now }
-    requires room { from + length into.old ≤ width }
-    requires width { width ≤ BUDGET_LIMIT + 1 }
-    requires fed { AllFedFar (row_value values.now width) network.now (from + length into.old)
-        (state_at Z.state broad.now) }
+    requires broad { length broad.old ≡ length network.now.arcs }
+    requires rows { network.now.nodes ≤ length rows.now }
+    requires limit { from + length into.old ≤ BUDGET_LIMIT + 1 }
+    requires fed { AllFed rows.now network.now (state_at Z.state broad.old) }
+    requires ready { AllReady network.now from workspace.old (state_at Z.state broad.old) }
+    requires read { (arc : Arc) → arc_at network.now number ≡ Some arc
+        → IsRead rows.now (from + length into.old) arc }
     ensures sums { (arc : Arc) → arc_at network.now number ≡ Some arc → (x : ℕ)
         → x < length into.old → slice_index into.new x
-        ≡ plain_sum arc (row_value values.now width) (from + x) }
+        ≡ plain_sum arc (row_value rows.now) (from + x) }
     ensures room { length into.new ≡ length into.old }
+    ensures fed { AllFed rows.now network.now (state_at Z.state broad.new) }
+    ensures same { AreSame (state_at Z.state broad.old) (state_at Z.state broad.new) }
+    ensures broad { length broad.new ≡ length broad.old }
+    ensures work { workspace.new ≡ workspace.old }
 {
+    feed_arc(network, number, rows, broad, workspace, products);
     let arc = network.numbered(number);
     match summer_of(broad, number) {
         Some(summer) => {
             let least = arc.time.least().get();
             broad_sums(summer, least, 0, from as u32, into);
         }
-        None => head_sums(arc, values, width, from, into),
+        None => head_sums(arc, rows, from, into),
     }
 }
 
@@ -81,33 +89,40 @@ fn raise(sums: &[u128], bests: &mut [u128])
 
 /// The greatest sums of the arcs that leave a node, at budgets in a row from `from` on, by their
 /// summers and the rows of their heads.
-pub(crate) fn find_bests<Z: Summer>(
+pub(crate) fn find_bests<Z: Summer, M: Ledger>(
     network: &Network,
     node: NodeId,
-    values: &[Grain],
-    width: usize,
-    broad: &[Option<Box<Z>>],
+    rows: &RowBank<Grain>,
+    broad: &mut [Option<Box<Z>>],
     from: usize,
     sums: &mut [u128],
     bests: &mut [u128],
+    workspace: &mut Workspace,
+    products: &mut Steps<M>,
 )
     requires node { IsNode network.now node }
-    requires rows { network.now.nodes * width ≤ length values.now }
-    requires broad { length broad.now ≡ length network.now.arcs }
-    requires room { from + length bests.old ≤ width }
-    requires width { width ≤ BUDGET_LIMIT + 1 }
+    requires rows { network.now.nodes ≤ length rows.now }
+    requires broad { length broad.old ≡ length network.now.arcs }
+    requires limit { from + length bests.old ≤ BUDGET_LIMIT + 1 }
     requires sums { length sums.old ≡ length bests.old }
-    requires fed { AllFedFar (row_value values.now width) network.now (from + length bests.old)
-        (state_at Z.state broad.now) }
+    requires fed { AllFed rows.now network.now (state_at Z.state broad.old) }
+    requires ready { AllReady network.now from workspace.old (state_at Z.state broad.old) }
+    requires read { AllRead rows.now (from + length bests.old) network.now node }
     ensures bests { (x : ℕ) → x < length bests.old → slice_index bests.new x
-        ≡ best_sum network.now (row_value values.now width) node (from + x) }
+        ≡ best_sum network.now (row_value rows.now) node (from + x) }
     ensures room { length bests.new ≡ length bests.old }
     ensures sums { length sums.new ≡ length sums.old }
+    ensures fed { AllFed rows.now network.now (state_at Z.state broad.new) }
+    ensures same { AreSame (state_at Z.state broad.old) (state_at Z.state broad.new) }
+    ensures broad { length broad.new ≡ length broad.old }
+    ensures work { workspace.new ≡ workspace.old }
 {
-    numbers_of_arcs();
+    arcs_one_by_one();
     bests.fill(0);
     for number in network.leaving(node) {
-        sums_of(network, *number, values, width, broad, from, sums);
+        sums_of(
+            network, *number, rows, broad, from, sums, workspace, products,
+        );
         raise(sums, bests);
     }
 }
@@ -117,24 +132,22 @@ pub(crate) fn find_bests<Z: Summer>(
 pub(crate) fn choose(
     network: &Network,
     node: NodeId,
-    values: &[Grain],
-    width: usize,
+    rows: &RowBank<Grain>,
     budget: usize,
 ) -> Option<ArcId>
     requires node { IsNode network.now node }
-    requires rows { network.now.nodes * width ≤ length values.now }
-    requires room { budget < width }
-    requires width { width ≤ BUDGET_LIMIT + 1 }
+    requires rows { network.now.nodes ≤ length rows.now }
+    requires budget { budget ≤ BUDGET_LIMIT }
     ensures { result ≡ choice_of network.now.arcs
-        (λ arc. plain_sum arc (row_value values.now width) budget) node }
+        (λ arc. plain_sum arc (row_value rows.now) budget) node }
 {
-    numbers_of_arcs();
+    arcs_one_by_one();
     arcs_by_number();
     let mut best = 0;
     let mut choice = None;
     let mut sums = [0u128; 1];
     for number in network.leaving(node) {
-        head_sums(network.numbered(*number), values, width, budget, &mut sums);
+        head_sums(network.numbered(*number), rows, budget, &mut sums);
         if best < sums[0] {
             best = sums[0];
             choice = Some(*number);

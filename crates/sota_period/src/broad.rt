@@ -1,122 +1,143 @@
 // The summers of broad arcs.
-ghost use Rattle.std.specs.Prelude.{ℕ, ◌≡◌, ◌≢◌, ◌+◌, ◌*◌, ◌≤◌, map, length};
-ghost use Rattle.std.specs.Prelude.{slice_index, Some, None, IfOk};
+ghost use Rattle.std.specs.Prelude.{ℕ, ◌≡◌, ◌+◌, ◌≤◌, map, length};
+ghost use Rattle.std.specs.Prelude.{slice_index, Some, IfOk};
+ghost use Rattle.std.specs.List.{All};
 ghost use Rattle.std.specs.Option.{option_copied, option_map};
 ghost use Rattle.sota_units.specs.Limits.{BUDGET_LIMIT};
 ghost use Rattle.sota_network.specs.Network.{arc_at};
 ghost use Rattle.sota_network.specs.declared.network.Arc.{Arc};
-ghost use Rattle.sota_period.specs.Rows.{row_value};
+ghost use Rattle.sota_period.specs.Rows.{row_of};
 ghost use Rattle.sota_online.specs.Summer.{SummerState};
-ghost use Rattle.sota_period.specs.Broad.{state_of, state_at, first_state, IsFedOn, FedOnAt};
+ghost use Rattle.sota_period.specs.Broad.{AllFed, AreSame, IsFedOn, IsWorkFor};
+ghost use Rattle.sota_period.specs.Broad.{first_state, is_summed, kernel_places};
+ghost use Rattle.sota_period.specs.Broad.{state_at, state_of};
 
-use crate::table::row_of;
+use crate::table::{known_of, row_of};
+use sota_bank::RowBank;
 use sota_network::{Arc, Network};
-use sota_online::Summer;
+use sota_online::{Summer, Workspace};
 use sota_units::{ArcId, Grain, NoMemory, Steps, Tick};
 use std::alloc::Global;
 use std::sync::ledger::Ledger;
 
-/// An arc with more ticks than these within the budget is broad.
+/// An arc with more ticks than these within what its tail needs is broad.
 const NARROW: usize = 32;
 
-/// A summer of an arc where it is broad, with room for a value at each budget, else none.
-fn make_summer<Z: Summer>(alloc: Global, arc: &Arc, budget: u32) -> Result<Option<Box<Z>>, NoMemory>
-    requires { budget ≤ BUDGET_LIMIT }
-    ensures { IfOk result (λ found. state_of Z.state found ≡ first_state budget arc.now) }
+/// Whether the sums of an arc at the budgets from `from` on are made by a summer.
+fn is_summed(arc: &Arc, needs: &[u32], from: usize) -> bool
+    requires { (1 ≤ arc.now.tail) × (arc.now.tail ≤ length needs.now) }
+    ensures { result ≡ is_summed needs.now from arc.now }
 {
-    if arc.time.within(Tick(budget)).len() <= NARROW {
+    let need = needs[arc.tail.get() as usize - 1];
+    from < need as usize && NARROW < arc.time.within(Tick(need - 1)).len()
+}
+
+/// A summer of an arc where it is wanted, with room for what its head needs.
+fn make_summer<Z: Summer>(
+    alloc: Global,
+    arc: &Arc,
+    needs: &[u32],
+    from: usize,
+) -> Result<Option<Box<Z>>, NoMemory>
+    requires tail { (1 ≤ arc.now.tail) × (arc.now.tail ≤ length needs.now) }
+    requires head { (1 ≤ arc.now.head) × (arc.now.head ≤ length needs.now) }
+    requires within { All (λ n. n ≤ BUDGET_LIMIT + 1) needs.now }
+    ensures { IfOk result (λ found. state_of Z.state found ≡ first_state needs.now from arc.now) }
+{
+    if !is_summed(arc, needs, from) {
         return Ok(None);
     }
-    let summer = Z::make(alloc, &arc.time, budget + 1)?;
+    let start = (from as u32 + 1).saturating_sub(arc.time.least().get());
+    let length = needs[arc.head.get() as usize - 1];
+    let summer = Z::make(alloc, &arc.time, length, start)?;
     Ok(Some(Box::new(alloc, summer)?))
 }
 
-/// The summers of all arcs: that of arc `e` stands at index `e - 1`.
+/// How long the kernel of a summer is, 0 where there is none.
+fn places_of<Z: Summer>(found: &Option<Box<Z>>) -> u32
+    ensures { result ≡ kernel_places (state_of Z.state found.now) }
+{
+    match found {
+        Some(summer) => summer.span(),
+        None => 0,
+    }
+}
+
+/// The summers of all arcs for the budgets from `from` on, and how long their longest kernel is.
+/// That of arc `e` stands at index `e - 1`.
 pub(crate) fn make_summers<Z: Summer>(
     alloc: Global,
-    arcs: &[Arc],
-    budget: u32,
-) -> Result<Vec<Option<Box<Z>>>, NoMemory>
-    requires { budget ≤ BUDGET_LIMIT }
-    ensures { IfOk result (λ summers.
-        map (state_of Z.state) summers.items ≡ map (first_state budget) arcs.now) }
+    network: &Network,
+    needs: &[u32],
+    from: usize,
+) -> Result<(Vec<Option<Box<Z>>>, u32), NoMemory>
+    requires nodes { network.now.nodes ≡ length needs.now }
+    requires within { All (λ n. n ≤ BUDGET_LIMIT + 1) needs.now }
+    ensures states { IfOk result (λ made.
+        map (state_of Z.state) made.0.items ≡ map (first_state needs.now from) network.now.arcs) }
+    ensures places { IfOk result (λ made.
+        All (λ arc. IsWorkFor made.1 (first_state needs.now from arc)) network.now.arcs) }
+    ensures within { IfOk result (λ made. made.1 ≤ BUDGET_LIMIT + 1) }
 {
+    let arcs = network.arcs();
     let mut summers = Vec::with_capacity(alloc, arcs.len())?;
+    let mut places = 0;
     for arc in arcs {
-        summers.push(make_summer(alloc, arc, budget)?)?;
+        let made = make_summer(alloc, arc, needs, from)?;
+        places = places_of(&made).max(places);
+        summers.push(made)?;
     }
-    Ok(summers)
+    Ok((summers, places))
 }
 
 /// Feeds a summer the values of a row until so many are fed.
-fn feed_row<Z: Summer, M: Ledger>(summer: &mut Z, row: &[Grain], to: u32, products: &mut Steps<M>)
+fn feed_row<Z: Summer, M: Ledger>(
+    summer: &mut Z,
+    row: &[Grain],
+    to: u32,
+    workspace: &mut Workspace,
+    products: &mut Steps<M>,
+)
     requires room { to ≤ length (Z.state summer.old).values + (Z.state summer.old).room }
     requires row { to ≤ length row.now }
-    ensures { IsFedOn (λ a. slice_index row.now a) to (Z.state summer.old) (Z.state summer.new) }
+    requires work { length (Z.state summer.old).kernel ≤ workspace.old }
+    ensures fed { IsFedOn (λ a. slice_index row.now a) to (Z.state summer.old)
+        (Z.state summer.new) }
+    ensures work { workspace.new ≡ workspace.old }
 {
     for index in summer.fed()..to {
-        summer.feed(row[index as usize], products);
+        summer.feed(row[index as usize], workspace, products);
     }
 }
 
-/// Feeds the summer of an arc, where it has one, the values at its head at budgets below `to`.
-fn feed_arc<Z: Summer, M: Ledger>(
+/// Feeds the summer of an arc, where it has one, the row of its head as far as it goes.
+pub(crate) fn feed_arc<Z: Summer, M: Ledger>(
     network: &Network,
     number: ArcId,
-    values: &[Grain],
-    width: usize,
-    to: u32,
+    rows: &RowBank<Grain>,
     broad: &mut [Option<Box<Z>>],
+    workspace: &mut Workspace,
     products: &mut Steps<M>,
 )
     requires number { (1 ≤ number) × (number ≤ length network.now.arcs) }
     requires broad { length broad.old ≡ length network.now.arcs }
-    requires rows { network.now.nodes * width ≤ length values.now }
-    requires to { to ≤ width }
-    requires room { (arc : Arc) (state : SummerState) → arc_at network.now number ≡ Some arc
-        → state_at Z.state broad.old number ≡ Some state
-        → to ≤ length state.values + state.room }
-    ensures fed { (arc : Arc) (state : SummerState) → arc_at network.now number ≡ Some arc
-        → state_at Z.state broad.old number ≡ Some state
-        → FedOnAt (row_value values.now width arc.head) to state
-        (state_at Z.state broad.new number) }
-    ensures none { state_at Z.state broad.old number ≡ None
-        → state_at Z.state broad.new number ≡ None }
-    ensures others { (e : ℕ) → 1 ≤ e → e ≢ number
-        → state_at Z.state broad.new e ≡ state_at Z.state broad.old e }
+    requires rows { network.now.nodes ≤ length rows.now }
+    requires fed { AllFed rows.now network.now (state_at Z.state broad.old) }
+    requires work { (arc : Arc) (state : SummerState) → arc_at network.now number ≡ Some arc
+        → state_at Z.state broad.old number ≡ Some state → length state.kernel ≤ workspace.old }
+    ensures fed { AllFed rows.now network.now (state_at Z.state broad.new) }
+    ensures same { AreSame (state_at Z.state broad.old) (state_at Z.state broad.new) }
+    ensures reach { (arc : Arc) (state : SummerState) → arc_at network.now number ≡ Some arc
+        → state_at Z.state broad.new number ≡ Some state
+        → length (row_of rows.now arc.head) ≤ length state.values }
     ensures length { length broad.new ≡ length broad.old }
+    ensures work { workspace.new ≡ workspace.old }
 {
     let head = network.numbered(number).head;
+    let known = known_of(rows, head);
+    let row = row_of(rows, head);
     if let Some(summer) = &mut broad[number.get() as usize - 1] {
-        feed_row(&mut **summer, row_of(values, width, head), to, products);
-    }
-}
-
-/// Feeds all summers the values at the heads of their arcs at budgets below `to`.
-pub(crate) fn feed_arcs<Z: Summer, M: Ledger>(
-    network: &Network,
-    values: &[Grain],
-    width: usize,
-    to: u32,
-    broad: &mut [Option<Box<Z>>],
-    products: &mut Steps<M>,
-)
-    requires broad { length broad.old ≡ length network.now.arcs }
-    requires rows { network.now.nodes * width ≤ length values.now }
-    requires to { to ≤ width }
-    requires room { (e : ℕ) (arc : Arc) (state : SummerState) → arc_at network.now e ≡ Some arc
-        → state_at Z.state broad.old e ≡ Some state → to ≤ length state.values + state.room }
-    ensures fed { (e : ℕ) (arc : Arc) (state : SummerState) → arc_at network.now e ≡ Some arc
-        → state_at Z.state broad.old e ≡ Some state
-        → FedOnAt (row_value values.now width arc.head) to state
-        (state_at Z.state broad.new e) }
-    ensures none { (e : ℕ) → 1 ≤ e → state_at Z.state broad.old e ≡ None
-        → state_at Z.state broad.new e ≡ None }
-    ensures length { length broad.new ≡ length broad.old }
-{
-    for index in 0..network.arc_count() {
-        let number = ArcId(index + 1);
-        feed_arc(network, number, values, width, to, broad, products);
+        feed_row(&mut **summer, row, known, workspace, products);
     }
 }
 

@@ -2,20 +2,16 @@
 ghost use Rattle.std.specs.Prelude.{ℕ, ◌≡◌, ◌+◌, ◌*◌, ◌≤◌, length, IfNone};
 ghost use Rattle.std.specs.List.{All, sum_by};
 ghost use Rattle.sota_units.specs.Limits.{BUDGET_LIMIT};
-ghost use Rattle.sota_hist.specs.Time.{IsTime};
 ghost use Rattle.sota_network.specs.Network.{IsNode};
 ghost use Rattle.sota_network.specs.Region.{broad_at};
 ghost use Rattle.sota_period.specs.Periods.{ArePeriods, first_net, PERIOD_LIMIT};
-ghost use Rattle.sota_period.specs.Answers.{timed_fault, timed_broad, cells_fault, has_node};
+ghost use Rattle.sota_period.specs.Answers.{timed_fault, timed_broad, timed_cells, cells_fault};
+ghost use Rattle.sota_period.specs.Answers.{TIMED_LIMIT, has_node};
 
 use crate::fault::TimedFault;
 use crate::timed::Timed;
-use sota_hist::laws::times_rise;
-use sota_network::{Arc, Network};
-use sota_units::{BUDGET_LIMIT, Tick};
-
-/// An arc with more pairs than these within the budget is broad.
-const NARROW: usize = 32;
+use sota_network::{Network, broad_at};
+use sota_units::BUDGET_LIMIT;
 
 /// The most timed cells that are planned for.
 const TIMED_LIMIT: u64 = 60_000_000;
@@ -34,6 +30,8 @@ pub(crate) fn find_timed_fault(
     ensures origin { IfNone result (IsNode (first_net timed.now) origin) }
     ensures dest { IfNone result (IsNode (first_net timed.now) dest) }
     ensures budget { IfNone result (budget ≤ BUDGET_LIMIT) }
+    ensures cells { IfNone result
+        (timed_cells (first_net timed.now).nodes budget ≤ TIMED_LIMIT) }
     ensures valid { ArePeriods timed.now }
 {
     let nodes = timed.nodes();
@@ -59,7 +57,8 @@ fn has_node(nodes: u32, node: u32) -> bool
 fn find_cells_fault(timed: &Timed, nodes: u32, budget: u32) -> Option<TimedFault>
     requires nodes { nodes ≡ (first_net timed.now).nodes }
     requires budget { budget ≤ BUDGET_LIMIT }
-    ensures { result ≡ cells_fault timed.now budget }
+    ensures value { result ≡ cells_fault timed.now budget }
+    ensures cells { IfNone result (timed_cells nodes budget ≤ TIMED_LIMIT) }
 {
     let cells = u64::from(nodes) * (u64::from(budget) + 1);
     if cells > TIMED_LIMIT {
@@ -94,23 +93,7 @@ fn broad_in(network: &Network, budget: u32) -> u64
 {
     let mut cells = 0;
     for arc in network.arcs() {
-        cells += broad_at(arc, budget);
+        cells += broad_at(arc, u64::from(budget) + 1, budget);
     }
     cells
-}
-
-/// What an arc adds to them.
-fn broad_at(arc: &Arc, budget: u32) -> u64
-    requires time { IsTime arc.now.time }
-    requires budget { budget ≤ BUDGET_LIMIT }
-    ensures value { result ≡ broad_at budget (budget + 1) arc.now }
-    ensures within { result ≤ 131072 }
-{
-    times_rise();
-    let within = arc.time.within(Tick(budget));
-    if within.len() <= NARROW {
-        return 0;
-    }
-    let span = within[within.len() - 1].0.get() - within[0].0.get() + 1;
-    u64::from(budget) + 1 + u64::from(span)
 }

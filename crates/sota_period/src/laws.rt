@@ -10,13 +10,17 @@ ghost use Rattle.sota_period.specs.Trees.{TimedEncloses};
 ghost use Rattle.sota_period.specs.Grid.{tlo, thi, tchoice};
 ghost use Rattle.sota_period.specs.Laws.{NetworkLaws};
 
-use sota_network::laws::{arcs_by_number, choices_by_worth, grid_recurs, sums_and_scores};
+use sota_network::laws::{
+    arcs_by_number, choices_by_worth, grid_recurs, scores_by_pairs, steps_settle, sums_and_scores,
+};
 
 /// What the crates below state of networks and sums.
 pub(crate) fn network_laws()
     ensures { NetworkLaws }
 {
     sums_and_scores();
+    scores_by_pairs();
+    steps_settle();
     arcs_by_number();
     choices_by_worth();
 }

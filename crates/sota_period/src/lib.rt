@@ -8,6 +8,7 @@ mod broad;
 mod cells;
 mod fault;
 pub mod laws;
+mod needs;
 mod plan;
 mod rows;
 mod table;

@@ -8,7 +8,8 @@ ghost use Rattle.sota_period.specs.Periods.{timed_net, first_net};
 ghost use Rattle.sota_period.specs.Trees.{TimedEncloses};
 ghost use Rattle.sota_period.specs.Grid.{tchoice};
 ghost use Rattle.sota_period.specs.Answers.{timed_result, is_shortage};
-ghost use Rattle.sota_period.specs.Rows.{AreRows, IsAsk, asked_net, asked_value};
+ghost use Rattle.sota_period.specs.Rows.{AreRows, IsAsk, asked_need, asked_net};
+ghost use Rattle.sota_period.specs.Rows.{asked_value};
 
 use crate::ask::Ask;
 use crate::bests::choose;
@@ -16,7 +17,10 @@ use crate::blocks::fill_period;
 use crate::cells::find_timed_fault;
 use crate::fault::TimedFault;
 use crate::laws::{network_laws, one_period, timed_grid_encloses};
+use crate::needs::{find_needs, find_visited};
+use crate::table::row_of;
 use crate::timed::Timed;
+use sota_bank::RowBank;
 use sota_online::Summer;
 use sota_sums::Bound;
 use sota_units::{ArcId, Grain, NoMemory, NodeId, Steps};
@@ -38,8 +42,10 @@ pub struct TimedAnswer {
 /// NoOrigin, NoDest, Budget, TimedCells and TimedBroad come exactly where they say, the first of
 /// them that stands.
 ///
-/// Broad arcs are summed by summers, two for each arc and period, whose products are counted. It
-/// takes memory for a value at each node and budget.
+/// Broad arcs are summed by summers, two for each arc and period. What they multiply is counted,
+/// and each value that is kept. It takes time linear in nodes and arcs, and beyond it time and
+/// memory for the values alone of the nodes that are reached in time, at the budgets that can be
+/// left there.
 pub fn plan_timed<Z: Summer, M: Ledger>(
     alloc: Global,
     timed: &Timed,
@@ -70,23 +76,24 @@ pub fn plan_timed<Z: Summer, M: Ledger>(
     if let Some(fault) = find_timed_fault(timed, origin, dest, budget) {
         return Err(fault);
     }
-    let dest = NodeId(dest);
+    let (origin, dest) = (NodeId(origin), NodeId(dest));
+    let needs = find_needs(alloc, timed, origin, dest, budget)?;
+    let visited = find_visited(alloc, &needs, dest)?;
     let ask = Ask {
         timed,
         dest,
         budget,
         deadline,
         bound: Bound::Lower,
+        needs: &needs,
+        visited: &visited,
     };
-    let (lower, next) = plan_lower::<Z, M>(alloc, &ask, NodeId(origin), products)?;
+    let (lower, next) = plan_lower::<Z, M>(alloc, &ask, origin, products)?;
     let ask = Ask {
-        timed,
-        dest,
-        budget,
-        deadline,
         bound: Bound::Upper,
+        ..ask
     };
-    let upper = plan_bound::<Z, M>(alloc, &ask, NodeId(origin), products)?;
+    let upper = plan_bound::<Z, M>(alloc, &ask, origin, products)?;
     Ok(TimedAnswer { lower, upper, next })
 }
 
@@ -99,15 +106,16 @@ fn plan_lower<Z: Summer, M: Ledger>(
 ) -> Result<(Grain, Option<ArcId>), NoMemory>
     requires ask { IsAsk ask.now }
     requires origin { IsNode (first_net ask.now.timed.now) origin }
+    requires need { asked_need ask.now origin ≡ ask.now.budget + 1 }
     requires bound { ask.now.bound ≡ Lower }
     ensures value { IfOk result (λ found.
         found.0 ≡ asked_value ask.now origin ask.now.budget) }
     ensures next { IfOk result (λ found.
         found.1 ≡ tchoice (asked_net ask.now) ask.now.dest origin ask.now.budget) }
 {
-    let values = fill_rows::<Z, M>(alloc, ask, products)?;
-    let next = find_next(ask, origin, &values);
-    Ok((value_at(ask, origin, &values), next))
+    let rows = fill_rows::<Z, M>(alloc, ask, products)?;
+    let next = find_next(ask, origin, &rows);
+    Ok((value_at(ask, origin, &rows), next))
 }
 
 /// The value of an origin.
@@ -119,29 +127,31 @@ fn plan_bound<Z: Summer, M: Ledger>(
 ) -> Result<Grain, NoMemory>
     requires ask { IsAsk ask.now }
     requires origin { IsNode (first_net ask.now.timed.now) origin }
+    requires need { asked_need ask.now origin ≡ ask.now.budget + 1 }
     ensures { IfOk result (λ value. value ≡ asked_value ask.now origin ask.now.budget) }
 {
-    let values = fill_rows::<Z, M>(alloc, ask, products)?;
-    Ok(value_at(ask, origin, &values))
+    let rows = fill_rows::<Z, M>(alloc, ask, products)?;
+    Ok(value_at(ask, origin, &rows))
 }
 
 /// The value of a node at the whole budget.
-fn value_at(ask: &Ask, node: NodeId, values: &[Grain]) -> Grain
+fn value_at(ask: &Ask, node: NodeId, rows: &RowBank<Grain>) -> Grain
     requires ask { IsAsk ask.now }
     requires node { IsNode (first_net ask.now.timed.now) node }
-    requires rows { AreRows ask.now (ask.now.budget + 1) values.now }
+    requires need { asked_need ask.now node ≡ ask.now.budget + 1 }
+    requires rows { AreRows ask.now (ask.now.budget + 1) rows.now }
     ensures { result ≡ asked_value ask.now node ask.now.budget }
 {
-    let budget = ask.budget as usize;
-    values[(node.get() as usize - 1) * (budget + 1) + budget]
+    row_of(rows, node)[ask.budget as usize]
 }
 
 /// The arc to take from a node with the whole budget.
-fn find_next(ask: &Ask, node: NodeId, values: &[Grain]) -> Option<ArcId>
+fn find_next(ask: &Ask, node: NodeId, rows: &RowBank<Grain>) -> Option<ArcId>
     requires ask { IsAsk ask.now }
     requires node { IsNode (first_net ask.now.timed.now) node }
+    requires need { asked_need ask.now node ≡ ask.now.budget + 1 }
     requires bound { ask.now.bound ≡ Lower }
-    requires rows { AreRows ask.now (ask.now.budget + 1) values.now }
+    requires rows { AreRows ask.now (ask.now.budget + 1) rows.now }
     ensures { result ≡ tchoice (asked_net ask.now) ask.now.dest node ask.now.budget }
 {
     network_laws();
@@ -150,38 +160,50 @@ fn find_next(ask: &Ask, node: NodeId, values: &[Grain]) -> Option<ArcId>
     }
     let place = ask.timed.find_period(ask.deadline - ask.budget);
     let network = &ask.timed.periods()[place].1;
-    let budget = ask.budget as usize;
-    choose(network, node, values, budget + 1, budget)
+    choose(network, node, rows, ask.budget as usize)
 }
 
-/// The table of all values: the rows of the nodes one after the other, each by rising budget.
+/// The rows of all nodes, by rising budget.
 fn fill_rows<Z: Summer, M: Ledger>(
     alloc: Global,
     ask: &Ask,
     products: &mut Steps<M>,
-) -> Result<Vec<Grain>, NoMemory>
+) -> Result<RowBank<Grain>, NoMemory>
     requires { IsAsk ask.now }
-    ensures { IfOk result (λ values. AreRows ask.now (ask.now.budget + 1) values.items) }
+    ensures { IfOk result (λ rows. AreRows ask.now (ask.now.budget + 1) rows) }
 {
-    let width = ask.budget as usize + 1;
-    let nodes = ask.timed.nodes() as usize;
-    let mut values = vec![in alloc; Grain::ZERO; nodes * width]?;
-    let start = (ask.dest.get() as usize - 1) * width;
-    values.as_mut_slice()[start..start + width].fill(Grain::ONE);
-    fill_budgets::<Z, M>(alloc, ask, values.as_mut_slice(), products)?;
-    Ok(values)
+    let mut rows = first_rows(alloc, ask, products)?;
+    fill_budgets::<Z, M>(alloc, ask, &mut rows, products)?;
+    Ok(rows)
 }
 
-/// Writes the values of all nodes at all budgets, period by period.
+/// The row of the destination, where all values are one, and empty rows of the other nodes.
+fn first_rows<M: Ledger>(
+    alloc: Global,
+    ask: &Ask,
+    products: &mut Steps<M>,
+) -> Result<RowBank<Grain>, NoMemory>
+    requires { IsAsk ask.now }
+    ensures { IfOk result (λ rows. AreRows ask.now 0 rows) }
+{
+    network_laws();
+    let mut rows = RowBank::new(alloc, ask.needs)?;
+    let dest = ask.dest.get() as usize - 1;
+    let ones = vec![in alloc; Grain::ONE; ask.needs[dest] as usize]?;
+    rows.append(dest, &ones, products);
+    Ok(rows)
+}
+
+/// Extends the rows to all budgets, period by period.
 fn fill_budgets<Z: Summer, M: Ledger>(
     alloc: Global,
     ask: &Ask,
-    values: &mut [Grain],
+    rows: &mut RowBank<Grain>,
     products: &mut Steps<M>,
 ) -> Result<(), NoMemory>
     requires ask { IsAsk ask.now }
-    requires rows { AreRows ask.now 0 values.old }
-    ensures { OnOk result (AreRows ask.now (ask.now.budget + 1) values.new) }
+    requires rows { AreRows ask.now 0 rows.old }
+    ensures { OnOk result (AreRows ask.now (ask.now.budget + 1) rows.new) }
 {
     let periods = ask.timed.periods();
     let width = ask.budget as usize + 1;
@@ -190,7 +212,7 @@ fn fill_budgets<Z: Summer, M: Ledger>(
         let place = ask.timed.find_period(ask.deadline - from as u32);
         let period = &periods[place];
         let to = width.min((ask.deadline - period.0) as usize + 1);
-        fill_period::<Z, M>(alloc, ask, &period.1, values, from, to, products)?;
+        fill_period::<Z, M>(alloc, ask, &period.1, rows, from, to, products)?;
         from = to;
     }
     Ok(())

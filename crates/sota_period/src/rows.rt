@@ -1,57 +1,133 @@
-// One row more of a table: the values of a node at budgets in a row.
-ghost use Rattle.std.specs.Prelude.{ℕ, ◌≡◌, ◌≢◌, ◌+◌, ◌*◌, ◌<◌, ◌≤◌, length, slice_index};
-ghost use Rattle.sota_units.specs.Rounding.{ONE};
+// A row goes on by the values of its node at budgets in a row.
+ghost use Rattle.std.specs.Prelude.{ℕ, ◌≡◌, ◌≢◌, ◌+◌, ◌-◌, ◌*◌, ◌<◌, ◌≤◌, ◌++◌, min};
+ghost use Rattle.std.specs.Prelude.{length, slice_index};
 ghost use Rattle.sota_units.specs.Limits.{BUDGET_LIMIT};
+ghost use Rattle.sota_units.specs.Rounding.{ONE};
+ghost use Rattle.sota_bank.specs.Rows.{with_list};
 ghost use Rattle.sota_network.specs.Network.{IsNode};
 ghost use Rattle.sota_network.specs.Grid.{best_sum};
 ghost use Rattle.sota_sums.specs.Bounds.{rounded_in};
-ghost use Rattle.sota_period.specs.Rows.{row_place, row_value};
-ghost use Rattle.sota_period.specs.Broad.{AllFedFar, state_at};
+ghost use Rattle.sota_period.specs.Rows.{AreLonger, AreRows, Holds, IsAsk, TakesAtLeast};
+ghost use Rattle.sota_period.specs.Rows.{asked_need, row_of, row_room, row_value};
+ghost use Rattle.sota_period.specs.Broad.{AllFed, AllRead, AllReady, AreSame, state_at};
 
+use crate::ask::Ask;
 use crate::bests::find_bests;
+use crate::laws::network_laws;
+use crate::table::known_of;
+use sota_bank::RowBank;
 use sota_network::Network;
-use sota_online::Summer;
+use sota_online::{Summer, Workspace};
 use sota_sums::{Bound, round};
-use sota_units::{Grain, NodeId};
+use sota_units::{Grain, NodeId, Steps};
+use std::sync::ledger::Ledger;
 
-/// Writes the values of a node that is not the destination, at as many budgets in a row as there is
-/// room for sums, from `from` on.
-pub(crate) fn fill_row<Z: Summer>(
+/// Appends to the row of a node the rounded greatest sums of its arcs, at as many budgets as there
+/// is room for sums.
+fn append_values<Z: Summer, M: Ledger>(
     network: &Network,
     node: NodeId,
     bound: Bound,
-    values: &mut [Grain],
-    width: usize,
-    broad: &[Option<Box<Z>>],
+    rows: &mut RowBank<Grain>,
+    broad: &mut [Option<Box<Z>>],
+    at: usize,
+    sums: &mut [u128],
+    bests: &mut [u128],
+    grains: &mut [Grain],
+    workspace: &mut Workspace,
+    products: &mut Steps<M>,
+)
+    requires node { IsNode network.now node }
+    requires rows { network.now.nodes ≤ length rows.old }
+    requires broad { length broad.old ≡ length network.now.arcs }
+    requires limit { at + length bests.old ≤ BUDGET_LIMIT + 1 }
+    requires at { at ≡ length (row_of rows.old node) }
+    requires room { at + length bests.old ≤ row_room rows.old node }
+    requires sums { length sums.old ≡ length bests.old }
+    requires grains { length grains.old ≡ length bests.old }
+    requires fed { AllFed rows.old network.now (state_at Z.state broad.old) }
+    requires ready { AllReady network.now at workspace.old (state_at Z.state broad.old) }
+    requires read { AllRead rows.old (at + length bests.old) network.now node }
+    requires small { (x : ℕ) → x < length bests.old
+        → best_sum network.now (row_value rows.old) node (at + x) ≤ network.now.scale * ONE }
+    ensures rows { rows.new
+        ≡ with_list rows.old (node - 1) (row_of rows.old node ++ grains.new) }
+    ensures values { (x : ℕ) → x < length bests.old → slice_index grains.new x
+        ≡ rounded_in bound network.now.scale
+        (best_sum network.now (row_value rows.old) node (at + x)) }
+    ensures fed { AllFed rows.old network.now (state_at Z.state broad.new) }
+    ensures same { AreSame (state_at Z.state broad.old) (state_at Z.state broad.new) }
+    ensures broad { length broad.new ≡ length broad.old }
+    ensures work { workspace.new ≡ workspace.old }
+    ensures sums { length sums.new ≡ length sums.old }
+    ensures bests { length bests.new ≡ length bests.old }
+    ensures grains { length grains.new ≡ length grains.old }
+{
+    find_bests(
+        network, node, rows, broad, at, sums, bests, workspace, products,
+    );
+    let count = bests.len();
+    round(bests, network.scale(), bound, grains, count);
+    rows.append(node.get() as usize - 1, grains, products);
+}
+
+/// Appends to the row of a node that is not the destination its values at the budgets that it needs
+/// and that are not there yet, out of as many from `from` on as there is room for sums.
+pub(crate) fn extend_row<Z: Summer, M: Ledger>(
+    ask: &Ask,
+    network: &Network,
+    node: NodeId,
+    rows: &mut RowBank<Grain>,
+    broad: &mut [Option<Box<Z>>],
     from: usize,
     sums: &mut [u128],
     bests: &mut [u128],
+    grains: &mut [Grain],
+    workspace: &mut Workspace,
+    products: &mut Steps<M>,
 )
+    requires ask { IsAsk ask.now }
     requires node { IsNode network.now node }
-    requires rows { network.now.nodes * width ≤ length values.old }
-    requires broad { length broad.now ≡ length network.now.arcs }
-    requires fed { AllFedFar (row_value values.old width) network.now (from + length bests.old)
-        (state_at Z.state broad.now) }
-    requires room { from + length bests.old ≤ width }
-    requires width { width ≤ BUDGET_LIMIT + 1 }
+    requires off { node ≢ ask.now.dest }
+    requires holds { Holds ask.now network.now from (from + length bests.old) }
+    requires takes { TakesAtLeast (length bests.old) network.now.arcs }
+    requires some { 1 ≤ length bests.old }
+    requires limit { from + length bests.old ≤ ask.now.budget + 1 }
     requires sums { length sums.old ≡ length bests.old }
-    requires small { (x : ℕ) → x < length bests.old
-        → best_sum network.now (row_value values.old width) node (from + x)
-        ≤ network.now.scale * ONE }
-    ensures row { (x : ℕ) → x < length bests.old
-        → row_value values.new width node (from + x) ≡ rounded_in bound network.now.scale
-        (best_sum network.now (row_value values.old width) node (from + x)) }
-    ensures before { (p : ℕ) → p < row_place width node from
-        → slice_index values.new p ≡ slice_index values.old p }
-    ensures after { (p : ℕ) → row_place width node (from + length bests.old) ≤ p
-        → slice_index values.new p ≡ slice_index values.old p }
-    ensures count { length values.new ≡ length values.old }
+    requires grains { length grains.old ≡ length bests.old }
+    requires rows { AreRows ask.now from rows.old }
+    requires broad { length broad.old ≡ length network.now.arcs }
+    requires fed { AllFed rows.old network.now (state_at Z.state broad.old) }
+    requires ready { AllReady network.now from workspace.old (state_at Z.state broad.old) }
+    ensures rows { AreRows ask.now from rows.new }
+    ensures longer { AreLonger rows.old rows.new }
+    ensures reach { min (from + length bests.old) (asked_need ask.now node)
+        ≤ length (row_of rows.new node) }
+    ensures fed { AllFed rows.new network.now (state_at Z.state broad.new) }
+    ensures same { AreSame (state_at Z.state broad.old) (state_at Z.state broad.new) }
+    ensures broad { length broad.new ≡ length broad.old }
+    ensures work { workspace.new ≡ workspace.old }
     ensures sums { length sums.new ≡ length sums.old }
     ensures bests { length bests.new ≡ length bests.old }
+    ensures grains { length grains.new ≡ length grains.old }
 {
-    find_bests(network, node, values, width, broad, from, sums, bests);
-    let start = (node.get() as usize - 1) * width + from;
-    let count = bests.len();
-    let row = &mut values[start..start + count];
-    round(bests, network.scale(), bound, row, count);
+    network_laws();
+    let at = known_of(rows, node) as usize;
+    let end = (rows.cap(node.get() as usize - 1) as usize).min(from + bests.len());
+    if at < end {
+        let count = end - at;
+        append_values(
+            network,
+            node,
+            ask.bound,
+            rows,
+            broad,
+            at,
+            &mut sums[..count],
+            &mut bests[..count],
+            &mut grains[..count],
+            workspace,
+            products,
+        );
+    }
 }

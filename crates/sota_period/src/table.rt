@@ -1,16 +1,24 @@
-// Tables of values, with one row for each node.
-ghost use Rattle.std.specs.Prelude.{ℕ, ◌≡◌, ◌*◌, ◌<◌, ◌≤◌, length, slice_index};
-ghost use Rattle.sota_period.specs.Rows.{row_value};
+// Rows of values, one for each node.
+ghost use Rattle.std.specs.Prelude.{◌≡◌, ◌≤◌, length};
+ghost use Rattle.sota_period.specs.Rows.{row_of, row_room};
 
+use sota_bank::RowBank;
 use sota_units::{Grain, NodeId};
 
-/// The row of a node, in a table of rows of this width.
-pub(crate) fn row_of(values: &[Grain], width: usize, node: NodeId) -> &[Grain]
-    requires { (1 ≤ node) × (node * width ≤ length values.now) }
-    ensures values { (t : ℕ) → t < width
-        → slice_index result.now t ≡ row_value values.now width node t }
-    ensures width { length result.now ≡ width }
+/// The row of a node: its values at budgets from 0 on, as far as they are known.
+pub(crate) fn row_of(rows: &RowBank<Grain>, node: NodeId) -> &[Grain]
+    requires { (1 ≤ node) × (node ≤ length rows.now) }
+    ensures { result.now ≡ row_of rows.now node }
 {
-    let start = (node.get() as usize - 1) * width;
-    &values[start..start + width]
+    rows.front(node.get() as usize - 1)
+}
+
+/// How many values of a node are known: never more than its row has room for.
+pub(crate) fn known_of(rows: &RowBank<Grain>, node: NodeId) -> u32
+    requires { (1 ≤ node) × (node ≤ length rows.now) }
+    ensures value { result ≡ length (row_of rows.now node) }
+    ensures within { result ≤ row_room rows.now node }
+{
+    let row = node.get() as usize - 1;
+    rows.len(row).min(rows.cap(row))
 }

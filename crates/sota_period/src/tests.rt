@@ -170,7 +170,8 @@ fn one_period(alloc: Global, network: Network) -> Result<Timed, Fail> {
     Ok(Timed::new(periods)?)
 }
 
-/// Four asks from node 1 to node 3 are answered as by the plain planner.
+/// Four asks from node 1 to node 3 are answered as by the plain planner. Within few ticks most
+/// nodes are out of reach.
 fn same_as_plain<Z: Summer, M: Ledger>(
     rt: &impl Abort,
     alloc: Global,
@@ -180,8 +181,8 @@ fn same_as_plain<Z: Summer, M: Ledger>(
 ) -> Result<(), Fail>
     requires { (3 ≤ grid.now.nodes) × (grid.now.budget ≡ 150) }
 {
-    for quarter in 0..4 {
-        let budget = 50 * quarter;
+    for place in 0..4 {
+        let budget = [0, 5, 40, 150][place];
         let answer = plan_timed::<Z, M>(alloc, timed, 1, 3, budget, 200, products)?;
         assert_eq!(rt; answer.lower, grid.lower(NodeId(1), budget));
         assert_eq!(rt; answer.upper, grid.upper(NodeId(1), budget));

@@ -1,15 +1,27 @@
-use Rattle.std.proofs.Common.{ℕ, ◌≡◌, ◌+◌, ◌<◌, ◌==◌, List, length, slice_index, sym, ◌∙◌, subst, arith}
+use Rattle.std.proofs.Common.{ℕ, ◌≡◌, ◌+◌, ◌<◌, List, Option, Some, length, slice_index, sym, ◌∙◌, ap, subst, arith}
 use Rattle.sota_network.specs.Network.{Net}
 use Rattle.sota_network.specs.Grid.{plain_sum}
 use Rattle.sota_network.specs.declared.network.Arc.{Arc}
 use Rattle.sota_period.specs.Rows.{row_value}
-use Rattle.sota_period.specs.Broad.{IsFedFar}
-use Rattle.sota_period.proofs.Among.{worth, worth-out, out-read, best-step, best-end}
+use Rattle.sota_network.specs.Among.{numbered_worth}
+use Rattle.sota_online.specs.Summer.{SummerState}
+use Rattle.sota_period.specs.Broad.{IsRead, state_at}
+use Rattle.sota_period.proofs.Feeding.{same-then, same-ready, later-ready}
 use Rattle.sota_period.proofs.bests.find_bests.Goals as goal
 
-pub sums_of-requires-clause-fed : goal.sums_of-requires-clause-fed
-sums_of-requires-clause-fed g c = λ e arc state number is.
-    subst (λ (n : ℕ). IsFedFar (row_value c.args.values.now c.args.width) arc (c.args.from + n) state) (sym (c.loop-number.invariant.sums ∙ c.requires.sums)) (c.requires.fed e arc state number is)
+pub sums_of-requires-clause-read : goal.sums_of-requires-clause-read
+sums_of-requires-clause-read g c = λ arc at.
+    let net : Net = c.args.network.now in
+    let out = c.arcs_one_by_one.ensures.leaving net c.args.node c.loop-number.number-index c.number-item.result c.leaving-number-items.result.now c.leaving-number-items.ensures.value c.loop-number-test.true c.number-item.is in
+    let same : out.0 ≡ arc = (let both : Some out.0 ≡ Some arc = sym out.1 ∙ at in cc) in
+    let tail : arc.tail ≡ c.args.node = ap (λ (a : Arc). a.tail) (sym same) ∙ out.2 in
+    subst (λ (n : ℕ). IsRead c.args.rows.now (c.args.from + n) arc) (sym (c.loop-number.invariant.sums ∙ c.requires.sums)) (c.requires.read c.number-item.result arc at tail)
+
+pub sums_of-requires-clause-ready : goal.sums_of-requires-clause-ready
+sums_of-requires-clause-ready g c =
+    let now : ℕ → Option SummerState = state_at g.Z.Summer.state c.loop-number.broad in
+    later-ready c.args.network.now c.args.from c.args.from c.args.workspace.now c.loop-number.workspace now (omega arith) c.loop-number.invariant.work
+    (same-ready c.args.network.now c.args.from c.args.workspace.now (state_at g.Z.Summer.state c.args.broad.now) now c.loop-number.invariant.same c.requires.ready)
 
 pub loop-number-preserved : goal.loop-number-preserved
 loop-number-preserved g c =
@@ -17,20 +29,24 @@ loop-number-preserved g c =
     let es : List ℕ = c.leaving-number-items.result.now in
     let k : ℕ = c.loop-number.number-index in
     let e : ℕ = c.number-item.result in
-    let out = out-read net c.args.node es k e (c.numbers_of_arcs.ensures.only net (λ (a : Arc). a.tail == c.args.node)) c.leaving-number-items.ensures.value c.loop-number-test.true c.number-item.is in
+    let out = c.arcs_one_by_one.ensures.leaving net c.args.node k e es c.leaving-number-items.ensures.value c.loop-number-test.true c.number-item.is in
     let arc : Arc = out.0 in
-    let P : ℕ → Arc → ℕ = λ x a. plain_sum a (row_value c.args.values.now c.args.width) (c.args.from + x) in
+    let P : ℕ → Arc → ℕ = λ x a. plain_sum a (row_value c.args.rows.now) (c.args.from + x) in
     record {
       sums = c.sums_of.ensures.room ∙ c.loop-number.invariant.sums;
       room = c.raise.ensures.room ∙ c.loop-number.invariant.room;
+      broad = c.sums_of.ensures.broad ∙ c.loop-number.invariant.broad;
+      fed = c.sums_of.ensures.fed;
+      same = same-then (state_at g.Z.Summer.state c.args.broad.now) (state_at g.Z.Summer.state c.loop-number.broad) (state_at g.Z.Summer.state c.sums_of.new.broad) c.loop-number.invariant.same c.sums_of.ensures.same;
+      work = c.sums_of.ensures.work ∙ c.loop-number.invariant.work;
       bests = λ x h.
           let inside : x < length c.loop-number.sums = omega (arith, h, c.loop-number.invariant.sums, c.requires.sums) in
           let below : x < length c.loop-number.bests = omega (arith, h, c.loop-number.invariant.room) in
-          best-step (worth net (P x)) es k e (slice_index c.loop-number.bests x) (slice_index c.sums_of.new.into x) (slice_index c.raise.new.bests x) c.loop-number-test.true c.number-item.is (c.loop-number.invariant.bests x h)
-          (c.sums_of.ensures.sums arc out.1 x inside ∙ worth-out net (P x) e arc out.1) (c.raise.ensures.sums x below);
+          c.arcs_one_by_one.ensures.best_step (numbered_worth net (P x)) es k e (slice_index c.loop-number.bests x) (slice_index c.sums_of.new.into x) (slice_index c.raise.new.bests x) c.loop-number-test.true c.number-item.is (c.loop-number.invariant.bests x h)
+          (c.sums_of.ensures.sums arc out.1 x inside ∙ c.arcs_one_by_one.ensures.number net (P x) e arc out.1) (c.raise.ensures.sums x below);
     }
 
 pub returns-clause-bests : goal.returns-clause-bests
 returns-clause-bests g c = λ x h.
     c.loop-number.invariant.bests x h
-    ∙ best-end c.args.network.now (λ a. plain_sum a (row_value c.args.values.now c.args.width) (c.args.from + x)) c.args.node c.leaving-number-items.result.now c.loop-number.number-index c.leaving-number-items.ensures.value c.loop-number-test.false
+    ∙ c.arcs_one_by_one.ensures.best_end c.args.network.now (λ a. plain_sum a (row_value c.args.rows.now) (c.args.from + x)) c.args.node c.leaving-number-items.result.now c.loop-number.number-index c.leaving-number-items.ensures.value c.loop-number-test.false

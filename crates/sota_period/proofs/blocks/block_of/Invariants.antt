@@ -1,4 +1,4 @@
-use Rattle.std.proofs.Common.{◌≡◌, ◌≤◌, take}
+use Rattle.std.proofs.Common.{◌≤◌, take}
 use Rattle.sota_period.specs.Rows.{TakesAtLeast}
 use Rattle.sota_period.proofs.blocks.block_of.Given as goal
 

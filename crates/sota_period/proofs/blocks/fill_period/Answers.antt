@@ -1,10 +1,11 @@
-use Rattle.std.proofs.Common.{rules, ℕ, ◌≡◌, ◌+◌, ◌-◌, ◌≤◌, ◌++◌, length, map, take, drop, refl, sym, ◌∙◌, ap, subst, arith, List}
+use Rattle.std.proofs.Common.{ℕ, ◌≡◌, ◌+◌, ◌≤◌, ◌++◌, length, map, take, drop, refl, sym, ◌∙◌, ap, subst, arith, List}
 use Rattle.std.proofs.lemmas.List.{length-map, length-take-le, length-append, length-drop}
-use Rattle.sota_network.specs.Network.{Net}
+use Rattle.sota_network.specs.Network.{Net, IsArc}
 use Rattle.sota_period.specs.declared.ask.Ask.{Ask}
-use Rattle.sota_period.specs.Rows.{AreRows, asked_value, asked_width}
-use Rattle.sota_period.specs.Broad.{SummerList, AllFed, state_of, state_at, first_state}
-use Rattle.sota_period.proofs.Feeding.{start-fed}
+use Rattle.sota_period.specs.Rows.{AreRows, asked_net}
+use Rattle.sota_period.specs.Broad.{SummerList, AllFed, AllReady, state_of, state_at, first_state}
+use Rattle.sota_period.proofs.Feeding.{start-fed, start-ready, same-ready, later-ready}
+use Rattle.sota_period.proofs.Filling.{valid-held, nodes-held}
 use Rattle.sota_period.proofs.blocks.fill_period.Goals as goal
 
 -- an array of which the first places were written
@@ -12,38 +13,49 @@ written-long : {X : Type 0} (count room : ℕ) (old new : List X) → length old
 written-long count room old new full less same =
     omega (arith, length-append new (drop count old), length-drop count old, length-take-le count old (omega (arith, full, less)), same, full)
 
+pub make_summers-requires-clause-nodes : goal.make_summers-requires-clause-nodes
+make_summers-requires-clause-nodes g c =
+    nodes-held c.network_laws.ensures c.args.ask.now c.requires.ask c.args.network.now c.args.from (c.requires.holds c.args.from (omega arith) c.requires.some) ∙ sym c.requires.ask.needs.count
+
 pub loop-at-init : goal.loop-at-init
 loop-at-init g c =
     let ask : Ask = c.args.ask.now in
     let net : Net = c.args.network.now in
-    let made : map (state_of g.Z.Summer.state) c.in_ok-summers.summers.items ≡ map (first_state ask.budget) net.arcs = c.in_ok-summers.ensures ∙ ap (map (first_state ask.budget)) c.arcs.ensures.value in
+    let here : (asked_net ask).at c.args.from ≡ net = c.requires.holds c.args.from (omega arith) c.requires.some in
+    let made : map (state_of g.Z.Summer.state) c.in_ok-summers.summers.items ≡ map (first_state ask.needs.now c.args.from) net.arcs = c.in_ok-summers.ensures.states in
     record {
       low = omega arith;
       high = omega (arith, c.requires.some);
       sums = refl;
       bests = refl;
+      grains = refl;
       rows = c.requires.rows;
-      count = ap length c.as_mut_slice-broad.ensures.value ∙ sym (length-map c.in_ok-summers.summers.items (state_of g.Z.Summer.state)) ∙ ap length made ∙ length-map net.arcs (first_state ask.budget);
-      fed = subst (λ (xs : SummerList g.row.Z.Denot). AllFed (asked_value ask) net (asked_width ask) c.args.from (state_at g.Z.Summer.state xs)) (sym c.as_mut_slice-broad.ensures.value)
-          (start-fed g.Z.Summer.state c.in_ok-summers.summers.items (asked_value ask) net ask.budget c.args.from made);
+      count = ap length c.as_mut_slice-broad.ensures.value ∙ sym (length-map c.in_ok-summers.summers.items (state_of g.Z.Summer.state)) ∙ ap length made ∙ length-map net.arcs (first_state ask.needs.now c.args.from);
+      fed = subst (λ (xs : SummerList g.row.Z.Denot). AllFed c.args.rows.now net (state_at g.Z.Summer.state xs)) (sym c.as_mut_slice-broad.ensures.value)
+          (start-fed g.Z.Summer.state c.in_ok-summers.summers.items net ask.needs.now c.args.from made c.args.rows.now
+          (λ e arc at.
+          let v : IsArc net arc = c.network_laws.ensures.arc net e arc (valid-held c.network_laws.ensures ask c.requires.ask net c.args.from here) at in
+          c.requires.rows.room arc.head v.head.0 (omega (arith, v.head.1, nodes-held c.network_laws.ensures ask c.requires.ask net c.args.from here))));
+      ready = subst (λ (xs : SummerList g.row.Z.Denot). AllReady net c.args.from c.in_ok-workspace.workspace (state_at g.Z.Summer.state xs)) (sym c.as_mut_slice-broad.ensures.value)
+          (later-ready net c.args.from c.args.from c.in_ok-summers.places c.in_ok-workspace.workspace (state_at g.Z.Summer.state c.in_ok-summers.summers.items) (omega arith) c.in_ok-workspace.ensures
+          (start-ready g.Z.Summer.state c.in_ok-summers.summers.items net ask.needs.now c.args.from made c.in_ok-summers.places c.in_ok-summers.ensures.places));
     }
-
-pub feed_block-requires-clause-fed : goal.feed_block-requires-clause-fed
-feed_block-requires-clause-fed g c = c.loop-at.invariant.fed
 
 pub loop-at-preserved : goal.loop-at-preserved
 loop-at-preserved g c =
     let ask : Ask = c.args.ask.now in
-    let net : Net = c.args.network.now in
     let few : c.min-count.result ≤ 64 = omega (arith, c.min-count.ensures, c.block_of-block.ensures.within.1) in
     let long : length (take c.min-count.result c.loop-at.bests) ≡ c.min-count.result =
     length-take-le c.min-count.result c.loop-at.bests (omega (arith, c.loop-at.invariant.bests, few)) in
     record {
       low = omega (arith, c.loop-at.invariant.low);
       high = omega (arith, c.min-count.ensures, c.loop-at-test.true);
-      sums = written-long c.min-count.result 64 c.loop-at.sums c.feed_block.new.sums c.loop-at.invariant.sums few c.feed_block.ensures.sums;
-      bests = written-long c.min-count.result 64 c.loop-at.bests c.feed_block.new.bests c.loop-at.invariant.bests few c.feed_block.ensures.bests;
-      rows = subst (λ (n : ℕ). AreRows ask (c.loop-at.at + n) c.feed_block.new.values) long c.feed_block.ensures.rows;
-      count = c.feed_block.ensures.broad ∙ c.loop-at.invariant.count;
-      fed = subst (λ (n : ℕ). AllFed (asked_value ask) net (asked_width ask) (c.loop-at.at + n) (state_at g.Z.Summer.state c.feed_block.new.broad)) long c.feed_block.ensures.fed;
+      sums = written-long c.min-count.result 64 c.loop-at.sums c.fill_block.new.sums c.loop-at.invariant.sums few c.fill_block.ensures.sums;
+      bests = written-long c.min-count.result 64 c.loop-at.bests c.fill_block.new.bests c.loop-at.invariant.bests few c.fill_block.ensures.bests;
+      grains = written-long c.min-count.result 64 c.loop-at.grains c.fill_block.new.grains c.loop-at.invariant.grains few c.fill_block.ensures.grains;
+      rows = subst (λ (n : ℕ). AreRows ask (c.loop-at.at + n) c.fill_block.new.rows) long c.fill_block.ensures.rows;
+      count = c.fill_block.ensures.broad ∙ c.loop-at.invariant.count;
+      fed = c.fill_block.ensures.fed;
+      ready = later-ready c.args.network.now c.loop-at.at (c.loop-at.at + c.min-count.result) c.loop-at.workspace c.fill_block.new.workspace (state_at g.Z.Summer.state c.fill_block.new.broad) (omega arith) c.fill_block.ensures.work
+          (same-ready c.args.network.now c.loop-at.at c.loop-at.workspace (state_at g.Z.Summer.state c.loop-at.broad) (state_at g.Z.Summer.state c.fill_block.new.broad) c.fill_block.ensures.same c.loop-at.invariant.ready);
     }

@@ -1,6 +1,6 @@
 use Rattle.std.proofs.Common.{◌≡◌, ◌-◌, ◌≤◌, length}
-use Rattle.sota_period.specs.Rows.{AreRows, asked_value, asked_width}
-use Rattle.sota_period.specs.Broad.{AllFed, state_at}
+use Rattle.sota_period.specs.Rows.{AreRows}
+use Rattle.sota_period.specs.Broad.{AllFed, AllReady, state_at}
 use Rattle.sota_period.proofs.blocks.fill_period.Given as goal
 
 abbrev pub invariant-loop-at : goal.invariant-loop-at
@@ -9,9 +9,11 @@ invariant-loop-at g l = record {
   high : l.at ≤ l.to;
   sums : length l.sums ≡ 64;
   bests : length l.bests ≡ 64;
-  rows : AreRows l.ask l.at l.values;
+  grains : length l.grains ≡ 64;
+  rows : AreRows l.ask l.at l.rows;
   count : length l.broad ≡ length l.network.arcs;
-  fed : AllFed (asked_value l.ask) l.network (asked_width l.ask) l.at (state_at g.Z.Summer.state l.broad);
+  fed : AllFed l.rows l.network (state_at g.Z.Summer.state l.broad);
+  ready : AllReady l.network l.at l.workspace (state_at g.Z.Summer.state l.broad);
 }
 
 abbrev pub decreases-loop-at : goal.decreases-loop-at

@@ -1,6 +1,6 @@
 use Rattle.std.proofs.Common.{ℕ, ◌<◌, length, slice_index, ◌∙◌, arith}
 use Rattle.std.proofs.lemmas.List.{get_or_default}
-use Rattle.sota_period.proofs.Feeding.{fed-to-more}
+use Rattle.sota_period.proofs.Feeding.{fed-to-fits, fed-to-more}
 use Rattle.sota_period.proofs.broad.feed_row.Goals as goal
 
 pub loop-index-preserved : goal.loop-index-preserved
@@ -9,5 +9,9 @@ loop-index-preserved g c =
     let k : ℕ = c.loop-index.index in
     let less : k < c.args.to = c.loop-index-test.true in
     let inside : k < length c.args.row.now = omega (arith, less, c.requires.row) in
-    fed-to-more (g.Z.Summer.state c.args.summer.now) (g.Z.Summer.state c.loop-index.summer) (g.Z.Summer.state c.feed.new.self) c.args.to k v (λ (a : ℕ). slice_index c.args.row.now a) c.loop-index.invariant less c.requires.room
-    (c.index-row-index.is ∙ get_or_default c.args.row.now k v 0 inside) c.feed.ensures
+    fed-to-more (g.Z.Summer.state c.args.summer.now) (g.Z.Summer.state c.loop-index.summer) (g.Z.Summer.state c.feed.new.self) c.args.to k v (λ (a : ℕ). slice_index c.args.row.now a) c.args.workspace.now c.loop-index.workspace c.feed.new.workspace c.loop-index.invariant less c.requires.room
+    (c.index-row-index.is ∙ get_or_default c.args.row.now k v 0 inside) c.feed.ensures.state c.feed.ensures.work
+
+pub feed-requires-clause-work : goal.feed-requires-clause-work
+feed-requires-clause-work g c =
+    fed-to-fits (g.Z.Summer.state c.args.summer.now) (g.Z.Summer.state c.loop-index.summer) c.args.to c.loop-index.index _ c.args.workspace.now c.loop-index.workspace c.loop-index.invariant c.requires.work

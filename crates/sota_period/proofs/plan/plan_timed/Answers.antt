@@ -1,26 +1,12 @@
-use Rattle.std.proofs.Common.{ℕ, ◌≡◌, ◌+◌, ◌*◌, ◌≤◌, List, [], ◌∷◌, Option, sym, ◌∙◌, ap, subst, arith}
+use Rattle.std.proofs.Common.{ℕ, ◌≡◌, ◌+◌, length, List, sym, ◌∙◌, ap, subst, arith}
 use Rattle.std.specs.List.{All}
 use Rattle.sota_network.specs.Network.{Net, IsNet}
-use Rattle.sota_period.specs.Periods.{TimedNet, timed_net}
+use Rattle.sota_period.specs.Periods.{TimedNet, first_net, timed_net}
+use Rattle.sota_period.specs.Needs.{AreNeeds, AreVisited}
+use Rattle.sota_period.proofs.Filling.{needs-fit}
 use Rattle.sota_period.specs.Grid.{tlo, thi, tchoice}
 use Rattle.sota_period.specs.Trees.{TimedEncloses}
 use Rattle.sota_period.proofs.plan.plan_timed.Goals as goal
-
-pub plan_lower-requires-clause-ask : goal.plan_lower-requires-clause-ask
-plan_lower-requires-clause-ask g c = record {
-  periods = c.find_timed_fault.ensures.valid;
-  dest = c.in_default.ensures.dest;
-  budget = c.in_default.ensures.budget;
-  deadline = c.requires;
-}
-
-pub plan_bound-requires-clause-ask : goal.plan_bound-requires-clause-ask
-plan_bound-requires-clause-ask g c = record {
-  periods = c.find_timed_fault.ensures.valid;
-  dest = c.in_default.ensures.dest;
-  budget = c.in_default.ensures.budget;
-  deadline = c.requires;
-}
 
 pub returns-clause-encloses : goal.returns-clause-encloses
 returns-clause-encloses g c =
@@ -49,3 +35,41 @@ returns-clause-plain g c = λ net same.
       c.in_ok-lower.ensures.next ∙ ap (λ (ps : List (ℕ × Net)). tchoice (timed_net ps c.args.deadline) c.args.dest c.args.origin c.args.budget) same
           ∙ c.one_period.ensures.choice net c.args.deadline c.args.dest c.args.origin c.args.budget valid,
     )
+
+pub plan_lower-requires-clause-ask : goal.plan_lower-requires-clause-ask
+plan_lower-requires-clause-ask g c =
+    let P : List (ℕ × Net) = c.args.timed.now in
+    let needs : AreNeeds P c.args.dest (c.args.budget + 1) c.deref-2.result.now =
+    subst (λ (xs : List ℕ). AreNeeds P c.args.dest (c.args.budget + 1) xs) (sym c.deref-2.ensures.value) c.in_ok-needs.ensures.needs in
+    record {
+      periods = c.find_timed_fault.ensures.valid;
+      dest = c.in_default.ensures.dest;
+      budget = c.in_default.ensures.budget;
+      deadline = c.requires;
+      needs = needs;
+      total = needs-fit c.deref-2.result.now (c.args.budget + 1) (first_net P).nodes needs.within needs.count c.in_default.ensures.cells;
+      visited = subst (λ (xs : List ℕ). AreVisited xs c.args.dest c.deref-3.result.now) (c.deref.ensures.value ∙ sym c.deref-2.ensures.value)
+          (subst (λ (ys : List ℕ). AreVisited c.deref.result.now c.args.dest ys) (sym c.deref-3.ensures.value) c.in_ok-visited.ensures);
+    }
+
+pub plan_bound-requires-clause-ask : goal.plan_bound-requires-clause-ask
+plan_bound-requires-clause-ask g c =
+    let P : List (ℕ × Net) = c.args.timed.now in
+    let needs : AreNeeds P c.args.dest (c.args.budget + 1) c.deref-2.result.now =
+    subst (λ (xs : List ℕ). AreNeeds P c.args.dest (c.args.budget + 1) xs) (sym c.deref-2.ensures.value) c.in_ok-needs.ensures.needs in
+    record {
+      periods = c.find_timed_fault.ensures.valid;
+      dest = c.in_default.ensures.dest;
+      budget = c.in_default.ensures.budget;
+      deadline = c.requires;
+      needs = needs;
+      total = needs-fit c.deref-2.result.now (c.args.budget + 1) (first_net P).nodes needs.within needs.count c.in_default.ensures.cells;
+      visited = subst (λ (xs : List ℕ). AreVisited xs c.args.dest c.deref-3.result.now) (c.deref.ensures.value ∙ sym c.deref-2.ensures.value)
+          (subst (λ (ys : List ℕ). AreVisited c.deref.result.now c.args.dest ys) (sym c.deref-3.ensures.value) c.in_ok-visited.ensures);
+    }
+
+pub find_visited-requires : goal.find_visited-requires
+find_visited-requires g c =
+    let P : List (ℕ × Net) = c.args.timed.now in
+    let needs : AreNeeds P c.args.dest (c.args.budget + 1) c.in_ok-needs.needs.items = c.in_ok-needs.ensures.needs in
+    omega (arith, ap length c.deref.ensures.value, needs.count, c.in_default.ensures.cells)
