@@ -10,7 +10,7 @@ use Rattle.sota_polfile.specs.Bracket.{Bracket}
 use Rattle.sota_check.specs.Rejected.{rejection}
 use Rattle.sota_check.specs.BracketRejected.{bracket_rejection}
 use Rattle.sota_replay.specs.Trip.{trip}
-use Rattle.sota_replay.specs.Tally.{tallied, trip_count, trips, replayed}
+use Rattle.sota_replay.specs.Tally.{tallied, trip_count, trips, tally_after}
 use Rattle.sota_replay.specs.declared.ending.Ending.{Ending}
 use Rattle.sota_replay.specs.declared.ending.Ending.TheVariants as endings
 use Rattle.sota_replay.specs.declared.tally.Tally.{Tally}
@@ -75,7 +75,7 @@ bracket_done net table o files d e s t means all =
 
 abbrev pub tally_line : Net → Table → Trips → List ℕ
 tally_line net table trips =
-    trips_line trips.count (replayed net table trips.count trips.seed)
+    trips_line trips.count (tally_after net table trips.count trips.seed)
 
 pub replayed_done : (net : Net) (table : Table) (trips : Trips) (o : Option Request)
     (files : Files) (d e : DeskState) (s t : SinkState)

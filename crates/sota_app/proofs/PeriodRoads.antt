@@ -14,7 +14,7 @@ use Rattle.sota_dimacs.specs.declared.graph.RawGraph.{RawGraph}
 use Rattle.sota_network.specs.Network.{Net}
 use Rattle.sota_histcsv.specs.Certain.{certain_arc, certain_by, certain_net, zero_time}
 use Rattle.sota_histcsv.specs.Histograms.{Contents, timed_arc}
-use Rattle.sota_histcsv.specs.Texts.{IsTextOf}
+use Rattle.sota_histcsv.specs.Texts.{IsHistTextOf}
 use Rattle.sota_histcsv.specs.declared.fault.HistFileFault.{HistFileFault}
 use Rattle.sota_period.specs.Periods.{AreInOrder, HasRoadsOf, PERIOD_LIMIT, first_net, no_net}
 use Rattle.sota_period.specs.Periods.{start_at}
@@ -51,7 +51,7 @@ timed_ends known n [] = refl
 timed_ends known n (arc ∷ raw) =
     ap (λ rest. (arc.tail, arc.head) ∷ rest) (timed_ends known (n + 1) raw)
 
-pub text_roads : (bytes : List ℕ) (graph : RawGraph) (net : Net) → IsTextOf bytes graph net
+pub text_roads : (bytes : List ℕ) (graph : RawGraph) (net : Net) → IsHistTextOf bytes graph net
     → HasRoads graph net
 text_roads bytes graph net is = record {
   nodes = is.nodes;

@@ -6,7 +6,7 @@ use Rattle.sota_script.specs.Lines.{parse_line}
 use Rattle.sota_script.specs.declared.fault.LineFault.{LineFault}
 use Rattle.sota_report.specs.declared.fault.ResolveFault.{ResolveFault}
 use Rattle.sota_report.specs.declared.fault.ResolveFault.TheVariants as unresolved
-use Rattle.sota_app.specs.Script.{or_line_fault}
+use Rattle.sota_app.specs.Script.{or_refused_line}
 use Rattle.sota_app.specs.declared.reply.Refusal.TheVariants as refusals
 
 abbrev pub resolved_or_place : Option (List ℕ) → Result (List ℕ) ResolveFault
@@ -21,7 +21,7 @@ pub resolved_fault : (found : Option (List ℕ)) (bytes : List ℕ) (fault : Lin
     → or_fault unresolved.Place found ≡ Ok bytes
     → Unless short (parse_line bytes ≡ Err fault)
     → Unless short ((or_fault (refusals.Name unresolved.Place) found
-    >>= λ line. or_line_fault (parse_line line)) ≡ Err (refusals.Line fault))
+    >>= λ line. or_refused_line (parse_line line)) ≡ Err (refusals.Line fault))
 resolved_fault found bytes fault true is answers = tt
 resolved_fault found bytes fault false is answers =
     rw (resolved_line found bytes is) (rw answers refl)

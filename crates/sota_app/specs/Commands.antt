@@ -6,7 +6,7 @@ use Rattle.sota_edge.specs.Sink.{SinkState, Wrote}
 use Rattle.sota_network.specs.Network.{Net}
 use Rattle.sota_script.specs.declared.command.Ask3.{Ask3}
 use Rattle.sota_script.specs.declared.command.Command.{Command}
-use Rattle.sota_route.specs.Bounds.{IsBracket}
+use Rattle.sota_route.specs.Bounds.{IsRouteBracket}
 use Rattle.sota_route.specs.Routes.{start_of}
 use Rattle.sota_route.specs.declared.bracket.RouteAnswer.{RouteAnswer}
 use Rattle.sota_quantile.specs.Needs.{ReachesWith}
@@ -62,7 +62,7 @@ pub record Routed (line : CommandLine) (dest budget : ℕ) (arcs : List ℕ) (ol
     arcs = length arcs;
   })) old new
   pub meant : (o : ℕ) → start_of (command_net line) arcs ≡ Some o
-      → IsBracket (command_net line) dest arcs o budget answer
+      → IsRouteBracket (command_net line) dest arcs o budget answer
 
 -- A line was written that spells 'need O D CONF TMAX EARLY SURE'. No decision tree arrives with the
 -- confidence within less time than EARLY, or within TMAX where it is none, and one does within

@@ -14,7 +14,7 @@ use Rattle.sota_polfile.specs.Table.{Table}
 use Rattle.sota_polfile.specs.Bracket.{Bracket}
 use Rattle.sota_check.specs.Certified.{rule, IsCertified}
 use Rattle.sota_check.specs.Bracketed.{bracket_rule, IsBracketed}
-use Rattle.sota_replay.specs.Tally.{replayed, trip_count}
+use Rattle.sota_replay.specs.Tally.{tally_after, trip_count}
 use Rattle.sota_app.specs.declared.words.Trips.{Trips}
 use Rattle.sota_app.specs.Words.{request_of}
 use Rattle.sota_app.specs.Replies.{answer_line, spell, replies_text}
@@ -150,8 +150,9 @@ IsReplayed words files net table trips = IsJob words files net (replay table tri
 -- by the words of the seed, of which each is counted once. Each entry of the policy holds.
 pub record Replayed (net : Net) (table : Table) (trips : Trips) (old new : SinkState)
     : Type 0 where
-  pub written : Wrote (trips_line trips.count (replayed net table trips.count trips.seed)) old new
-  pub whole : trip_count (replayed net table trips.count trips.seed) ≡ trips.count
+  pub written : Wrote (trips_line trips.count
+      (tally_after net table trips.count trips.seed)) old new
+  pub whole : trip_count (tally_after net table trips.count trips.seed) ≡ trips.count
   pub holds : IsCertified net table
 
 -- ---- the plan of a network that is made

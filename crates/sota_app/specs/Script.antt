@@ -45,17 +45,17 @@ pub record ScriptLine : Type 0 where
   pub parsed : Result (Option Command) Refusal
 
 -- a line is refused for its fault
-abbrev pub or_line_fault : {A : Type 0} → Result A LineFault → Result A Refusal
-or_line_fault (Ok x) = Ok x
-or_line_fault (Err fault) = Err (refusals.Line fault)
+abbrev pub or_refused_line : {A : Type 0} → Result A LineFault → Result A Refusal
+or_refused_line (Ok x) = Ok x
+or_refused_line (Err fault) = Err (refusals.Line fault)
 
 -- what a line is parsed as, as it is read in a voice: as it stands, or with numbers in the place of
 -- the names of nodes, which come before all else
 abbrev pub parse_in : Voice → List ℕ → Result (Option Command) Refusal
-parse_in voices.Plain line = or_line_fault (parse_line line)
+parse_in voices.Plain line = or_refused_line (parse_line line)
 parse_in (voices.Json places) line = do
   line ← or_fault (refusals.Name unresolved.Place) (resolved places line)
-  or_line_fault (parse_line line)
+  or_refused_line (parse_line line)
 
 abbrev pub script_line : Voice → ℕ × List ℕ → ScriptLine
 script_line voice line = record { number = line.0; parsed = parse_in voice line.1 }

@@ -12,7 +12,7 @@ use Rattle.sota_check.specs.declared.verdict.Certified.{Certified}
 use Rattle.sota_check.specs.declared.verdict.Rejection.{Rejection}
 use Rattle.sota_check.specs.declared.bracket_verdict.Bracketed.{Bracketed}
 use Rattle.sota_check.specs.declared.bracket_verdict.BracketRejection.{BracketRejection}
-use Rattle.sota_replay.specs.Tally.{replayed}
+use Rattle.sota_replay.specs.Tally.{tally_after}
 use Rattle.sota_replay.specs.declared.tally.Tally.{Tally}
 use Rattle.sota_app.specs.Replies.{count_text}
 use Rattle.sota_app.specs.declared.words.Trips.{Trips}
@@ -87,7 +87,7 @@ trips_line count tally =
 -- the tally of trips that follow a policy, unless it is rejected
 abbrev pub replay_line : Net → Table → Trips → Option Rejection → List ℕ
 replay_line net table trips None =
-    trips_line trips.count (replayed net table trips.count trips.seed)
+    trips_line trips.count (tally_after net table trips.count trips.seed)
 replay_line net table trips (Some cause) = rejected_line cause
 
 abbrev pub verdict_status : {A : Type 0} → Option A → Status
