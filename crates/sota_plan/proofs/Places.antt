@@ -1,8 +1,7 @@
 -- The summers of an arc, and how long their kernel is.
-use Rattle.std.proofs.Common.{ℕ, ◌≡◌, ◌+◌, ◌-◌, ◌<◌, ◌≤◌, min, true, false, List, [], ◌∷◌, ◌++◌, map, take, length, get_or, Option, None, Some, refl, sym, ◌∙◌, ap, arith, ⊎_elim}
+use Rattle.std.proofs.Common.{ℕ, ◌≡◌, ◌+◌, ◌-◌, ◌≤◌, min, true, false, List, length, get_or, Option, None, Some, refl, arith, ⊎_elim}
 use Rattle.std.specs.List.{All}
 use Rattle.std.proofs.lemmas.Bool.{cases_Bool}
-use Rattle.std.proofs.lemmas.List.{map-append, map_more}
 use Rattle.std.proofs.lemmas.List.FromFn.{length-map-range_with_len}
 use Rattle.sota_hist.specs.Time.{least_tick, mass_at}
 use Rattle.sota_network.specs.declared.network.Arc.{Arc}
@@ -10,7 +9,7 @@ use Rattle.sota_online.specs.Summer.{span, kernel_of}
 use Rattle.sota_bounds.specs.Search.{time_at}
 use Rattle.sota_bounds.specs.Cells.{pairs_by_need, pairs_by_lists}
 use Rattle.sota_kept.specs.Ticks.{END_LIMIT}
-use Rattle.sota_plan.specs.Runs.{ArcSums, is_broad_by, first_sums_by, kernel_places}
+use Rattle.sota_plan.specs.Runs.{is_broad_by, first_sums_by, kernel_places}
 
 -- a kernel has no more places than there are values
 kernel-few : (pairs : ℕ) (time : List (ℕ × ℕ)) → length (kernel_of pairs time) ≤ pairs
@@ -27,18 +26,9 @@ pub places-broad : (pairs start last : ℕ) (arc : Arc) → is_broad_by pairs la
 places-broad pairs start last arc wide = rw wide refl
 
 -- and no node has more pairs than budgets
-pairs-le : (time : Option ℕ) (needed : ℕ) → pairs_by_need time needed ≤ needed
+pub pairs-le : (time : Option ℕ) (needed : ℕ) → pairs_by_need time needed ≤ needed
 pairs-le None needed = omega arith
 pairs-le (Some to) needed = omega arith
 
 pub pairs-within : (least : List (Option ℕ)) (needs : List ℕ) (i : ℕ) → All (λ n. n ≤ END_LIMIT) needs → 1 ≤ i → i ≤ length needs → pairs_by_lists least needs i ≤ END_LIMIT
 pairs-within least needs i all low high = omega (arith, pairs-le (time_at least i) (get_or needs (i - 1) 0), all (i - 1) 0 (omega arith))
-
--- one arc more
-pub made-more : {X : Type 0} (state : X → Option ArcSums) (sums : Arc → Option ArcSums) (items new : List X) (made : X) (arcs : List Arc) (k : ℕ) (arc : Arc) → new ≡ items ++ made ∷ [] → map state items ≡ map sums (take k arcs) → k < length arcs → arc ≡ get_or arcs k arc → state made ≡ sums arc
-    → map state new ≡ map sums (take (k + 1) arcs)
-made-more state sums items new made arcs k arc at before inside read is =
-    ap (map state) at ∙ map-append state items (made ∷ [])
-    ∙ ap (λ (xs : List (Option ArcSums)). xs ++ state made ∷ []) before
-    ∙ ap (λ (s : Option ArcSums). map sums (take k arcs) ++ s ∷ []) (is ∙ ap sums read)
-    ∙ sym (map_more sums arcs k arc inside)

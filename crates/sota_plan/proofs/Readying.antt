@@ -1,12 +1,10 @@
 -- What was made before an entry is filled is a run that is ready.
-use Rattle.std.proofs.Common.{ℕ, zero, suc, ◌≡◌, ◌-◌, ◌≤◌, not, nat_lt, Bool, List, [], ◌∷◌, map, length, get_or, slice_get, Option, None, Some, sym, ◌∙◌, ap, arith, subst}
-use Rattle.std.proofs.lemmas.Option.{none-some, slice_get_within, get_or_from_slice_get}
-use Rattle.std.specs.List.{All}
+use Rattle.std.proofs.Common.{ℕ, zero, suc, ◌≡◌, ◌-◌, ◌≤◌, not, nat_lt, Bool, [], ◌∷◌, map, length, get_or, None, Some, refl, sym, ◌∙◌, ap, subst}
 use Rattle.std.proofs.lemmas.List.{length-map}
 use Rattle.sota_units.specs.Limits.{BUDGET_LIMIT}
 use Rattle.sota_network.specs.Network.{Net, IsNet, IsArc, IsNode, arc_at}
 use Rattle.sota_network.specs.declared.network.Arc.{Arc}
-use Rattle.sota_online.specs.Summer.{kernel_of}
+use Rattle.sota_online.specs.Summer.{SummerState, kernel_of}
 use Rattle.sota_bounds.specs.Cells.{pairs_by_lists}
 use Rattle.sota_bounds.specs.Regions.{IsRegion}
 use Rattle.sota_bounds.specs.declared.ask.AskRegion.{AskRegion}
@@ -17,51 +15,26 @@ use Rattle.sota_kept.specs.TableLists.{TableLists, AreTables, IsSettled, state_o
 use Rattle.sota_kept.specs.Asks.{IsPrepared}
 use Rattle.sota_order.specs.Orders.{OrderView}
 use Rattle.sota_tables.specs.Views.{TablesView, table_at, lists_of, room_of}
-use Rattle.sota_plan.specs.Runs.{ArcSums, IsReady, FitsIn, HasPlaces, is_broad_by, first_position, first_sums, first_sums_by}
+use Rattle.sota_fill.specs.Fed.{SummersList}
+use Rattle.sota_plan.specs.Runs.{IsReady, FitsIn, is_broad_by, most_fed, first_position, first_sums_by, made_sums, states_of, states_at}
 use Rattle.sota_plan.proofs.Stepping.{TableIs, base-prepared}
 
--- an item of a list that was mapped
-get-map : {X Y : Type 0} (f : X → Y) (xs : List X) (k : ℕ) (x : X) (d : Y) → slice_get xs k ≡ Some x → get_or (map f xs) k d ≡ f x
-get-map f [] k x d at = absurd (none-some x at)
-get-map f (y ∷ ys) zero x d at = let same : y ≡ x = cc in ap f same
-get-map f (y ∷ ys) (suc k) x d at = get-map f ys k x d at
-
-arc-is : (net : Net) → IsNet net → (k : ℕ) (arc : Arc) → slice_get net.arcs k ≡ Some arc → IsArc net arc
-arc-is net valid k arc at =
-    subst (λ (a : Arc). IsArc net a) (get_or_from_slice_get net.arcs k arc arc at) (valid.arcs k arc (slice_get_within net.arcs k arc at))
-
--- the summers that are made, by the lists of a region
-abbrev made_sums : AskRegion → TablesView → Arc → Option ArcSums
-made_sums region v arc = first_sums_by (pairs_by_lists region.least region.need arc.tail) (first_position v region arc) region.budget arc
-
-sums-first : (net : Net) → IsNet net → (region : AskRegion) → IsRegion region net region.origin region.dest region.budget → (v : TablesView) (sums : List (Option ArcSums)) → sums ≡ map (λ (arc : Arc). first_sums_by (pairs_by_lists region.least region.need arc.tail) (first_position v region arc) region.budget arc) net.arcs
-    → (e : ℕ) (arc : Arc) → arc_at net e ≡ Some arc → get_or sums (e - 1) None ≡ first_sums net region v arc
-sums-first net valid region is v sums are zero arc at = absurd (none-some arc at)
-sums-first net valid region is v sums are (suc k) arc at =
-    let same : suc k - 1 ≡ k = omega arith in
-    let tail : IsNode net arc.tail = (arc-is net valid k arc at).tail in
-    ap (λ (n : ℕ). get_or sums n None) same
-    ∙ ap (λ (xs : List (Option ArcSums)). get_or xs k None) are
-    ∙ get-map (made_sums region v) net.arcs k arc None at
-    ∙ ap (λ (pairs : ℕ). first_sums_by pairs (first_position v region arc) region.budget arc) (sym (is.pairs arc.tail tail))
-
--- there is room to work for each broad arc
-places-fit : (net : Net) → IsNet net → (region : AskRegion) → IsRegion region net region.origin region.dest region.budget → (places : ℕ) → All (FitsIn region places) net.arcs → HasPlaces net region places
-places-fit net valid region is places fits zero arc at wide = absurd (none-some arc at)
-places-fit net valid region is places fits (suc k) arc at wide =
-    let tail : IsNode net arc.tail = (arc-is net valid k arc at).tail in
-    let here : FitsIn region places arc = subst (λ (a : Arc). FitsIn region places a) (get_or_from_slice_get net.arcs k arc arc at) (fits k arc (slice_get_within net.arcs k arc at)) in
-    let same = is.pairs arc.tail tail in
-    subst (λ (n : ℕ). length (kernel_of n arc.time) ≤ places) (sym same) (here (ap (λ (n : ℕ). is_broad_by n region.budget arc) (sym same) ∙ wide))
+-- what stands for an arc, by the states of all
+sums-read : {Z : Type 0} (state : Z → SummerState) (broad : SummersList Z) (k : ℕ) → get_or (map (states_of state) broad) k None ≡ states_of state (get_or broad k None)
+sums-read state [] k = refl
+sums-read state (x ∷ xs) zero = refl
+sums-read state (x ∷ xs) (suc k) = sums-read state xs k
 
 pub ready-run : TableIs → (net : Net) → IsNet net → (region : AskRegion) → IsRegion region net region.origin region.dest region.budget → region.budget ≤ BUDGET_LIMIT
     → (old : TableLists) (v : TablesView) → IsPrepared net region.origin region.dest region.budget old (lists_of v) → AreTables (lists_of v) net.nodes → IsSettled (lists_of v) net
     → ((i : ℕ) → IsNode net i → get_or region.need (i - 1) 0 - known_end (table_at v i) ≤ room_of v i)
     → (order : OrderView) → order ≡ record { dest = region.dest; fronts = v.fronts; bases = v.bases; needs = region.need }
-    → (arcs : List Arc) → arcs ≡ net.arcs → (sums : List (Option ArcSums)) → sums ≡ map (λ (arc : Arc). first_sums_by (pairs_by_lists region.least region.need arc.tail) (first_position v region arc) region.budget arc) arcs
-    → (places : ℕ) → All (FitsIn region places) arcs → IsReady (record { region = region; order = order; sums = sums; places = places }) v net
-ready-run table net valid region is within old v prepared held settled room order at arcs all sums are places fits =
-    let sums-are : sums ≡ map (made_sums region v) net.arcs = are ∙ ap (map (made_sums region v)) all in
+    → ((e : ℕ) (arc : Arc) → arc_at net e ≡ Some arc → IsArc net arc) → {Z : Type 0} (state : Z → SummerState) (broad : SummersList Z) → length broad ≡ length net.arcs
+    → ((e : ℕ) (arc : Arc) → arc_at net e ≡ Some arc → states_at state broad e ≡ made_sums v region arc) → (places : ℕ) → ((e : ℕ) (arc : Arc) → arc_at net e ≡ Some arc → FitsIn region places arc)
+    → IsReady (record { region = region; order = order; sums = map (states_of state) broad; places = places }) v net
+ready-run table net valid region is within old v prepared held settled room order at arcs state broad long are places fits =
+    -- the number of pairs of an arc's tail, by the lists of the region
+    let pairs : (e : ℕ) (arc : Arc) → arc_at net e ≡ Some arc → most_fed net region arc ≡ pairs_by_lists region.least region.need arc.tail = λ e arc number. is.pairs arc.tail (arcs e arc number).tail in
     record {
       valid = valid;
       tables_are = held;
@@ -77,7 +50,11 @@ ready-run table net valid region is within old v prepared held settled room orde
       dest = prepared.to;
       room = room;
       order = at;
-      arcs = ap (λ (xs : List (Option ArcSums)). length xs) sums-are ∙ length-map net.arcs (made_sums region v);
-      sums = sums-first net valid region is v sums sums-are;
-      work = places-fit net valid region is places (subst (λ (xs : List Arc). All (FitsIn region places) xs) all fits);
+      arcs = length-map broad (states_of state) ∙ long;
+      sums = λ e arc number.
+          sums-read state broad (e - 1) ∙ are e arc number
+          ∙ ap (λ (n : ℕ). first_sums_by n (first_position v region arc) region.budget arc) (sym (pairs e arc number));
+      work = λ e arc number wide.
+          subst (λ (n : ℕ). length (kernel_of n arc.time) ≤ places) (sym (pairs e arc number))
+          (fits e arc number (ap (λ (n : ℕ). is_broad_by n region.budget arc) (sym (pairs e arc number)) ∙ wide));
     }

@@ -32,7 +32,7 @@ use Rattle.sota_plan.specs.Steps.{base_by}
 use Rattle.sota_plan.proofs.FedMore.{get_or-default}
 
 -- an arc that has a number has one from 1 on
-number-low : (net : Net) (e : ℕ) (arc : Arc) → arc_at net e ≡ Some arc → 1 ≤ e
+pub number-low : (net : Net) (e : ℕ) (arc : Arc) → arc_at net e ≡ Some arc → 1 ≤ e
 number-low net zero arc at = absurd (none-some arc at)
 number-low net (suc e) arc at = omega arith
 

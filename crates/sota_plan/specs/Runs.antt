@@ -18,6 +18,7 @@ use Rattle.sota_kept.specs.NodeTables.{known_end}
 use Rattle.sota_kept.specs.TableLists.{AreTables, IsSettled}
 use Rattle.sota_order.specs.Orders.{OrderView}
 use Rattle.sota_tables.specs.Views.{TablesView, lists_of, table_at, room_of}
+use Rattle.sota_fill.specs.Fed.{SummersList}
 use Rattle.sota_fill.specs.declared.broad.Summers.{Summers}
 use Rattle.sota_plan.specs.Steps.{base_by}
 
@@ -40,6 +41,10 @@ abbrev pub states_of : {Z : Type 0} → (Z → SummerState) → Option (Box (Sum
 states_of state None = None
 states_of state (Some two) =
     Some (record { lower = state two.value.lower; upper = state two.value.upper })
+
+-- those that stand for arc e
+abbrev pub states_at : {Z : Type 0} → (Z → SummerState) → SummersList Z → ℕ → Option ArcSums
+states_at state broad e = states_of state (slice_index_or broad (e - 1) None)
 
 -- how long their kernel is, 0 where there are none
 abbrev pub kernel_places : Option ArcSums → ℕ
@@ -85,6 +90,11 @@ first_sums_by pairs start last arc =
 
 abbrev pub first_sums : Net → AskRegion → TablesView → Arc → Option ArcSums
 first_sums net region tables arc = first_sums_by (most_fed net region arc)
+    (first_position tables region arc) region.budget arc
+
+-- the same by the lists of a region
+abbrev pub made_sums : TablesView → AskRegion → Arc → Option ArcSums
+made_sums tables region arc = first_sums_by (pairs_by_lists region.least region.need arc.tail)
     (first_position tables region arc) region.budget arc
 
 -- there is room to work for the kernel of an arc, where it is broad by the lists of a region

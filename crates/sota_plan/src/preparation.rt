@@ -21,7 +21,7 @@ use sota_bounds::AskRegion;
 use sota_kept::kept::{needs_are_met, tables_stay_right};
 use sota_kept::laws::least_ticks;
 use sota_network::Network;
-use sota_network::laws::{lists_by_number, region_by_least_times};
+use sota_network::laws::{arcs_by_number, lists_by_number, region_by_least_times};
 use sota_online::{Summer, Workspace};
 use sota_order::Order;
 use sota_order::laws::extents_of_tables;
@@ -131,16 +131,18 @@ pub fn prepare<'a, Z: Summer>(
         ≡ prepared_state network.now region.now.origin region.now.dest region.now.budget
         (state_of (lists_of tables.old)))) }
 {
+    arcs_by_number();
     least_ticks();
     lists_by_number();
     needs_are_met();
     tables_stay_right();
     views_are_lists();
-    let arcs = network.arcs();
+    // A check knows that the network is one once its nodes are counted.
+    prove!(network.nodes() > 0);
     let bases = bases_of(alloc, region.least.as_slice())?;
     make_room(tables, network, region, &bases)?;
     let order = order_of(alloc, network, tables, region)?;
-    let (broad, places) = make_summers(alloc, tables, region, arcs)?;
+    let (broad, places) = make_summers(alloc, network, tables, region)?;
     let workspace = Workspace::make(alloc, places)?;
     Ok(Run {
         region,

@@ -1,18 +1,21 @@
 // The summers of broad arcs.
-ghost use Rattle.std.specs.Prelude.{◌≡◌, ◌≤◌, length, map, IfOk, false};
+ghost use Rattle.std.specs.Prelude.{ℕ, ◌≡◌, ◌≢◌, ◌≤◌, length, replicate, IfOk, OnOk, false};
+ghost use Rattle.std.specs.Prelude.{None, Some};
 ghost use Rattle.std.specs.List.{All};
 ghost use Rattle.sota_hist.specs.Time.{is_closed};
+ghost use Rattle.sota_network.specs.Network.{IsNode, arc_at};
 ghost use Rattle.sota_bounds.specs.Cells.{pairs_by_need, pairs_by_lists};
 ghost use Rattle.sota_kept.specs.Ticks.{END_LIMIT};
 ghost use Rattle.sota_kept.specs.NodeTables.{known_end};
 ghost use Rattle.sota_tables.specs.Views.{HasNode, table_at};
 ghost use Rattle.sota_plan.specs.Steps.{base_by};
-ghost use Rattle.sota_plan.specs.Runs.{FitsIn, kernel_places, states_of, first_position};
-ghost use Rattle.sota_plan.specs.Runs.{first_sums_by};
+ghost use Rattle.sota_plan.specs.Runs.{FitsIn, kernel_places, states_of, states_at};
+ghost use Rattle.sota_plan.specs.Runs.{first_position, made_sums};
 
 use sota_bounds::AskRegion;
 use sota_fill::{Summers, base_of};
-use sota_network::Arc;
+use sota_network::laws::{arcs_by_number, numbers_of_arcs};
+use sota_network::{Arc, Network};
 use sota_online::Summer;
 use sota_tables::Tables;
 use sota_units::{NoMemory, NodeId, Tick};
@@ -87,9 +90,8 @@ fn summers_of<Z: Summer>(
     requires nodes { length region.now.least ≡ length region.now.need }
     requires needs { All (λ need. need ≤ END_LIMIT) region.now.need }
     requires head { (1 ≤ arc.now.head) × (arc.now.head ≤ length region.now.least) }
-    ensures { IfOk result (λ found. states_of Z.state found
-        ≡ first_sums_by (pairs_by_lists region.now.least region.now.need arc.now.tail)
-        (first_position tables.now region.now arc.now) region.now.budget arc.now) }
+    ensures { IfOk result (λ found.
+        states_of Z.state found ≡ made_sums tables.now region.now arc.now) }
 {
     let pairs = pairs_at_tail(region, arc);
     if pairs == 0 || arc.time.within(Tick(region.budget)).len() <= NARROW {
@@ -111,31 +113,81 @@ fn places_of<Z: Summer>(found: &Option<Box<Summers<Z>>>) -> u32
     }
 }
 
-/// The summers of all arcs, and how long their longest kernel is. Those of arc `e` stand at index
-/// `e - 1`.
-pub(crate) fn make_summers<Z: Summer>(
+/// As many arcs without summers.
+fn no_summers<Z: Summer>(alloc: Global, arcs: u32) -> Result<Vec<Option<Box<Summers<Z>>>>, NoMemory>
+    ensures { IfOk result (λ broad. broad.items ≡ replicate arcs None) }
+{
+    let mut broad = Vec::with_capacity(alloc, arcs as usize)?;
+    for _arc in 0..arcs {
+        broad.push(None)?;
+    }
+    Ok(broad)
+}
+
+/// Makes the summers of the arcs that leave a node: those of arc `e` stand at index `e - 1`. Gives
+/// how long the longest kernel of these is.
+fn make_leaving<Z: Summer>(
     alloc: Global,
+    network: &Network,
     tables: &Tables,
     region: &AskRegion,
-    arcs: &[Arc],
-) -> Result<(Vec<Option<Box<Summers<Z>>>>, u32), NoMemory>
-    requires ends { All (λ arc. HasNode tables.now arc.tail × ((1 ≤ arc.head)
-        × (arc.head ≤ length region.now.least))) arcs.now }
-    requires fronts { length tables.now.fronts ≡ length region.now.need }
-    requires nodes { length region.now.least ≡ length region.now.need }
+    node: NodeId,
+    broad: &mut [Option<Box<Summers<Z>>>],
+) -> Result<u32, NoMemory>
+    requires node { IsNode network.now node }
+    requires fronts { length tables.now.fronts ≡ network.now.nodes }
+    requires least { length region.now.least ≡ network.now.nodes }
+    requires need { length region.now.need ≡ network.now.nodes }
     requires needs { All (λ need. need ≤ END_LIMIT) region.now.need }
-    ensures sums { IfOk result (λ made. map (states_of Z.state) made.0.items
-        ≡ map (λ arc. first_sums_by (pairs_by_lists region.now.least region.now.need arc.tail)
-        (first_position tables.now region.now arc) region.now.budget arc) arcs.now) }
-    ensures places { IfOk result (λ made. All (FitsIn region.now made.1) arcs.now) }
+    requires broad { length broad.old ≡ length network.now.arcs }
+    ensures sums { OnOk result ((e : ℕ) (arc : Arc) → arc_at network.now e ≡ Some arc
+        → arc.tail ≡ node → states_at Z.state broad.new e ≡ made_sums tables.now region.now arc) }
+    ensures others { OnOk result ((e : ℕ) (arc : Arc) → arc_at network.now e ≡ Some arc
+        → arc.tail ≢ node → states_at Z.state broad.new e ≡ states_at Z.state broad.old e) }
+    ensures places { IfOk result (λ places. (e : ℕ) (arc : Arc) → arc_at network.now e ≡ Some arc
+        → arc.tail ≡ node → FitsIn region.now places arc) }
+    ensures within { IfOk result (λ places. places ≤ END_LIMIT) }
+    ensures length { length broad.new ≡ length broad.old }
+{
+    numbers_of_arcs();
+    let mut places = 0;
+    for number in network.leaving(node) {
+        let made = summers_of(alloc, tables, region, network.numbered(*number))?;
+        places = places_of(&made).max(places);
+        broad[number.get() as usize - 1] = made;
+    }
+    Ok(places)
+}
+
+/// The summers of all arcs, and how long their longest kernel is. Those of arc `e` stand at index
+/// `e - 1`. Of a node without a need no arc is looked at: it has no pair.
+pub(crate) fn make_summers<Z: Summer>(
+    alloc: Global,
+    network: &Network,
+    tables: &Tables,
+    region: &AskRegion,
+) -> Result<(Vec<Option<Box<Summers<Z>>>>, u32), NoMemory>
+    requires fronts { length tables.now.fronts ≡ network.now.nodes }
+    requires least { length region.now.least ≡ network.now.nodes }
+    requires need { length region.now.need ≡ network.now.nodes }
+    requires needs { All (λ need. need ≤ END_LIMIT) region.now.need }
+    ensures arcs { IfOk result (λ made. length made.0.items ≡ length network.now.arcs) }
+    ensures sums { IfOk result (λ made. (e : ℕ) (arc : Arc) → arc_at network.now e ≡ Some arc
+        → states_at Z.state made.0.items e ≡ made_sums tables.now region.now arc) }
+    ensures places { IfOk result (λ made. (e : ℕ) (arc : Arc) → arc_at network.now e ≡ Some arc
+        → FitsIn region.now made.1 arc) }
     ensures within { IfOk result (λ made. made.1 ≤ END_LIMIT) }
 {
-    let mut summers = Vec::with_capacity(alloc, arcs.len())?;
+    arcs_by_number();
+    let needs = region.need.as_slice();
+    let mut broad = no_summers(alloc, network.arc_count())?;
     let mut places = 0;
-    for arc in arcs {
-        let made = summers_of(alloc, tables, region, arc)?;
-        places = places_of(&made).max(places);
-        summers.push(made)?;
+    for index in 0..network.nodes() {
+        if needs[index as usize] > 0 {
+            let node = NodeId(index + 1);
+            let all = broad.as_mut_slice();
+            places = make_leaving(alloc, network, tables, region, node, all)?.max(places);
+        }
     }
-    Ok((summers, places))
+    Ok((broad, places))
 }

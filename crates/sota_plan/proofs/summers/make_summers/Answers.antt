@@ -1,30 +1,53 @@
-use Rattle.std.proofs.Common.{ℕ, ◌≡◌, List, take, sym, ◌∙◌, ap, subst, arith}
-use Rattle.std.proofs.lemmas.List.Elements.{All-more, All-weaker}
-use Rattle.sota_network.specs.declared.network.Arc.{Arc}
-use Rattle.sota_bounds.specs.Cells.{pairs_by_lists}
-use Rattle.sota_tables.specs.Views.{HasNode}
-use Rattle.sota_plan.specs.Runs.{FitsIn, kernel_places, states_of, first_position, first_sums_by}
-use Rattle.sota_plan.proofs.Places.{places-few, places-broad, pairs-within, made-more}
+use Rattle.std.proofs.Common.{ℕ, ◌≡◌, ◌+◌, ◌-◌, ◌≤◌, drop, replicate, slice_index, List, length, None, sym, ◌∙◌, ap, arith}
+use Rattle.sota_network.specs.Network.{Net, IsArc}
+use Rattle.sota_bounds.specs.Cells.{listed_need}
+use Rattle.sota_fill.specs.Fed.{SummersList}
+use Rattle.sota_plan.specs.Runs.{states_at}
+use Rattle.sota_plan.proofs.Making.{written-back, upto-first, upto-more, upto-skip, upto-all}
 use Rattle.sota_plan.proofs.summers.make_summers.Goals as goal
+use Rattle.sota_plan.proofs.summers.make_summers.Goals.{then-needs-index-gt0+in_ok-make_leaving, else-needs-index-gt0}
 
-pub loop-arc-preserved : goal.loop-arc-preserved
-loop-arc-preserved g c =
+pub loop-index-init : goal.loop-index-init
+loop-index-init g c =
+    upto-first g.Z.Summer.state c.args.network.now c.args.tables.now c.args.region.now c.in_ok-broad.broad.items (c.in_ok-broad.ensures ∙ ap (λ (n : ℕ). replicate n None) c.arc_count.ensures.value)
+    (λ e arc at. (c.arcs_by_number.ensures c.args.network.now e arc c.nodes-index-end.ensures.valid at).tail.0)
+
+pub loop-index-preserved : goal.loop-index-preserved
+loop-index-preserved g c =
+    let net : Net = c.args.network.now in
+    let tables = c.args.tables.now in
     let region = c.args.region.now in
-    let arcs : List Arc = c.args.arcs.now in
-    let k : ℕ = c.loop-arc.arc-index in
-    let arc : Arc = c.arc-item.result in
-    let pairs : ℕ = pairs_by_lists region.least region.need arc.tail in
-    let start : ℕ = first_position c.args.tables.now region arc in
-    let made : states_of g.Z.Summer.state c.in_ok-made.made ≡ first_sums_by pairs start region.budget arc = c.in_ok-made.ensures in
-    let places : c.places_of.result ≡ kernel_places (first_sums_by pairs start region.budget arc) = c.places_of.ensures ∙ ap kernel_places made in
-    let new : ℕ = c.max-places.result in
-    let tail = subst (λ (a : Arc). HasNode c.args.tables.now a.tail) (sym c.arc-item.is) (c.requires.ends k arc c.loop-arc-test.true).0 in
-    let few = pairs-within region.least region.need arc.tail c.requires.needs tail.0 (omega (arith, tail.1, c.requires.fronts)) in
-    let now : FitsIn region new arc = λ wide. omega (arith, places, places-broad pairs start region.budget arc wide, c.max-places.ensures) in
-    record {
-      sums = made-more (states_of g.Z.Summer.state) (λ (a : Arc). first_sums_by (pairs_by_lists region.least region.need a.tail) (first_position c.args.tables.now region a) region.budget a) c.loop-arc.summers.items _ c.in_ok-made.made arcs k arc c.in_ok-push.ensures.items c.loop-arc.invariant.sums c.loop-arc-test.true c.arc-item.is made;
-      places = All-more (FitsIn region new) arcs k arc c.loop-arc-test.true
-          (All-weaker (FitsIn region c.loop-arc.places) (FitsIn region new) (λ a fits wide. omega (arith, fits wide, c.max-places.ensures)) (take k arcs) c.loop-arc.invariant.places)
-          (subst (FitsIn region new) c.arc-item.is now);
-      within = omega (arith, places, places-few pairs start region.budget arc, few, c.max-places.ensures, c.loop-arc.invariant.within);
-    }
+    let k : ℕ = c.loop-index.index in
+    let old = c.loop-index.broad.items in
+    let places : ℕ = c.loop-index.places in
+    let upto = c.loop-index.invariant in
+    elim c.if-needs-index-gt0.branch [
+      | then-needs-index-gt0+in_ok-make_leaving w ↦
+          let made = w.in_ok-make_leaving.ensures in
+          let same = w.as_mut_slice-all.ensures.value in
+          let long : length w.make_leaving.new.broad ≡ c.loop-index.broad.len = omega (arith, made.length, ap length same, w.as_mut_slice-all.ensures.len) in
+          let written = written-back c.loop-index.broad.len w.make_leaving.new.broad (drop (length w.make_leaving.new.broad) old) long in
+          rw (w.broad-is, w.places-is, written)
+          (upto-more g.Z.Summer.state net tables region k old w.make_leaving.new.broad places w.max-places.result upto (made.length ∙ ap length same) (omega (arith, w.max-places.ensures)) (omega (arith, w.max-places.ensures, made.within, upto.within))
+          (λ e arc at there. (made.sums e arc at there, λ wide. omega (arith, made.places e arc at there wide, w.max-places.ensures)))
+          (λ e arc at off. made.others e arc at off ∙ ap (λ (b : SummersList g.row.Z.Denot). states_at g.Z.Summer.state b e) same))
+      | else-needs-index-gt0 w ↦
+          let needs : List ℕ = region.need in
+          let place : k + 1 - 1 ≡ k = omega arith in
+          let none : listed_need needs (k + 1) ≡ 0 = ap (λ (n : ℕ). slice_index needs n) place ∙ sym (ap (λ (xs : List ℕ). slice_index xs k) c.as_slice-needs.ensures) ∙ omega (arith, w.if-needs-index-gt0.false) in
+          rw (w.broad-is, w.places-is) (upto-skip g.Z.Summer.state net tables region k old places upto none)
+    ]
+
+pub returns-clause-sums : goal.returns-clause-sums
+returns-clause-sums g c = λ e arc at.
+    let net : Net = c.args.network.now in
+    let valid : IsArc net arc = c.arcs_by_number.ensures net e arc c.nodes-index-end.ensures.valid at in
+    let low : arc.tail ≤ c.loop-index.index = omega (arith, valid.tail.1, c.loop-index-test.false, c.nodes-index-end.ensures.value) in
+    upto-all g.Z.Summer.state net c.args.tables.now c.args.region.now c.loop-index.index c.loop-index.broad.items c.loop-index.places c.loop-index.invariant e arc at low
+
+pub returns-clause-places : goal.returns-clause-places
+returns-clause-places g c = λ e arc at.
+    let net : Net = c.args.network.now in
+    let valid : IsArc net arc = c.arcs_by_number.ensures net e arc c.nodes-index-end.ensures.valid at in
+    let low : arc.tail ≤ c.loop-index.index = omega (arith, valid.tail.1, c.loop-index-test.false, c.nodes-index-end.ensures.value) in
+    c.loop-index.invariant.fits e arc at low
