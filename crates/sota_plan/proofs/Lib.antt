@@ -3,6 +3,7 @@ pub mod Extended
 pub mod Extending
 pub mod FedMore
 mod Making
+mod Meeting
 pub mod Places
 pub mod Preparing
 pub mod Readying

@@ -1,4 +1,5 @@
 pub mod Laws
+pub mod Met
 pub mod Runs
 pub mod Steps
 pub mod Summed

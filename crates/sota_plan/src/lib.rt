@@ -4,12 +4,14 @@
 mod extension;
 mod feeding;
 mod laws;
+mod met;
 mod preparation;
 mod run;
 mod steps;
 mod summers;
 
 pub use extension::extend;
+pub use met::is_met;
 pub use preparation::prepare;
 pub use run::Run;
 

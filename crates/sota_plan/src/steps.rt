@@ -40,7 +40,7 @@ pub(crate) fn bases_of(alloc: Global, least: &[Option<u64>]) -> Result<Vec<u32>,
 }
 
 /// Whether this is the destination of the tables.
-fn is_towards(tables: &Tables, dest: NodeId) -> bool
+pub(crate) fn is_towards(tables: &Tables, dest: NodeId) -> bool
     ensures value { result ≡ is_dest tables.now.dest dest }
     ensures valid { IsTablesView tables.now }
 {
@@ -80,6 +80,14 @@ fn cells_kept(tables: &Tables, needs: &[u32]) -> u64
     cells
 }
 
+/// Whether that is too much.
+pub(crate) fn is_over(tables: &Tables, needs: &[u32]) -> bool
+    requires { length needs.now ≡ length tables.now.fronts }
+    ensures { result ≡ too_many tables.now needs.now (length tables.now.fronts) }
+{
+    cells_kept(tables, needs) > KEPT_LIMIT
+}
+
 /// Begins afresh where too much would be kept.
 fn limit(tables: &mut Tables, dest: NodeId, needs: &[u32], bases: &[u32])
     requires dest { tables.old.dest ≡ Some dest }
@@ -94,7 +102,7 @@ fn limit(tables: &mut Tables, dest: NodeId, needs: &[u32], bases: &[u32])
         then rebased_table (slice_index bases.now (i - 1)) (emptied_table (table_at tables.old i))
         else table_at tables.old i }
 {
-    if cells_kept(tables, needs) > KEPT_LIMIT {
+    if is_over(tables, needs) {
         tables.start(dest);
         tables.rebase(bases);
     }

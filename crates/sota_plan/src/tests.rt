@@ -5,7 +5,7 @@ ghost use Rattle.sota_hist.specs.Time.{total};
 ghost use Rattle.sota_kept.specs.TableLists.{IsKept};
 ghost use Rattle.sota_tables.specs.Views.{HasNode, lists_of};
 
-use crate::{extend, prepare};
+use crate::{extend, is_met, prepare};
 use sota_bounds::region;
 use sota_hist::Histogram;
 use sota_network::{Arc, Grid, Network, plain_grid};
@@ -108,6 +108,10 @@ fn plan<Z: Summer, M: Ledger, P: Ledger>(
     }
     let mut run = prepare::<Z>(alloc, network, tables, &region)?;
     extend(tables, network, &mut run, products, pushes);
+    // Once more it would change nothing.
+    if !is_met(network, tables, &region) {
+        return Err(Fail::from("an ask that is met"));
+    }
     Ok(())
 }
 

@@ -1,15 +1,17 @@
 // What an ask adds to the tables: the entries of its region that are missing.
-ghost use Rattle.std.specs.Prelude.{ℕ, ◌≡◌, ◌+◌, ◌*◌, ◌≤◌, ◌⊎◌, None, Err};
+ghost use Rattle.std.specs.Prelude.{ℕ, ◌≡◌, ◌+◌, ◌*◌, ◌≤◌, ◌⊎◌, None, Some, Err};
 ghost use Rattle.std.specs.Prelude.{IfOk, IfErr, OnErr, OnOk};
 ghost use Rattle.sota_units.specs.Limits.{BUDGET_LIMIT};
 ghost use Rattle.sota_units.specs.Memory.{IsFault, Unless};
-ghost use Rattle.sota_network.specs.Network.{IsNet, IsNode};
-ghost use Rattle.sota_kept.specs.States.{after_ask, missing, prepared_state};
+ghost use Rattle.sota_network.specs.Network.{Net, IsNet, IsNode};
+ghost use Rattle.sota_kept.specs.Ticks.{least_to};
+ghost use Rattle.sota_kept.specs.States.{after_ask, grown_state, missing, prepared_state};
 ghost use Rattle.sota_kept.specs.TableLists.{IsKept, IsSettled, state_of};
 ghost use Rattle.sota_bounds.specs.Faults.{TABLE_LIMIT, BROAD_LIMIT, region_fault};
 ghost use Rattle.sota_bounds.specs.Faults as bounds;
 ghost use Rattle.sota_bounds.specs.Regions.{AreLeastTo, IsRegion};
-ghost use Rattle.sota_tables.specs.Views.{lists_of};
+ghost use Rattle.sota_bounds.specs.declared.ask.AskRegion.{AskRegion};
+ghost use Rattle.sota_tables.specs.Views.{TablesView, lists_of, table_at};
 ghost use Rattle.sota_session.specs.Asks.{range_fault, size_fault, IsInRange};
 ghost use Rattle.sota_session.specs.Answers.{is_of_range, is_of_size, is_shortage};
 ghost use Rattle.sota_session.specs.Answers.{is_refused, refusal_of};
@@ -24,7 +26,7 @@ use sota_kept::kept::{needs_are_met, settled_entries};
 use sota_network::Network;
 use sota_network::laws::{grid_recurs, lists_by_number};
 use sota_online::BlockSummer;
-use sota_plan::{Run, extend, prepare};
+use sota_plan::{Run, extend, is_met, prepare};
 use sota_tables::Tables;
 use sota_tables::laws::views_are_lists;
 use sota_units::{Items, NoMemory, Steps};
@@ -103,7 +105,7 @@ fn region_of(alloc: Global, roads: &mut Roads, ask: &Ask) -> Result<AskRegion, R
     }
 }
 
-/// Adds the entries of a region that are missing.
+/// Adds the entries of a region that are missing. Where the ask changes nothing no memory is taken.
 fn grow<M: Ledger, P: Ledger>(
     alloc: Global,
     network: &Network,
@@ -135,12 +137,29 @@ fn grow<M: Ledger, P: Ledger>(
         ≡ prepared_state network.now region.now.origin region.now.dest region.now.budget
         (state_of (lists_of tables.old)))) }
 {
+    grown_tables_are_planned();
+    if is_met(network, tables, region) {
+        return Ok(());
+    }
+    let mut run = prepare::<Sums>(alloc, network, tables, region)?;
+    extend(tables, network, &mut run, products, pushes);
+    Ok(())
+}
+
+/// What is planned once the last step of an ask is taken, in tables that were ready for it.
+fn grown_tables_are_planned()
+    ensures { (net : Net) (region : AskRegion) (mid new : TablesView) → IsNet net
+        → IsRegion region net region.origin region.dest region.budget
+        → region.budget ≤ BUDGET_LIMIT → IsNode net region.origin → mid.dest ≡ Some region.dest
+        → ((i : ℕ) → IsNode net i → (table_at mid i).front ≤ least_to net region.dest i
+        → (table_at mid i).base ≡ least_to net region.dest i)
+        → state_of (lists_of new)
+        ≡ grown_state net region.origin region.dest region.budget (state_of (lists_of mid))
+        → IsSettled (lists_of new) net → IsPlanned region new net }
+{
     grid_recurs();
     lists_by_number();
     needs_are_met();
     settled_entries();
     views_are_lists();
-    let mut run = prepare::<Sums>(alloc, network, tables, region)?;
-    extend(tables, network, &mut run, products, pushes);
-    Ok(())
 }
