@@ -9,3 +9,4 @@ mod Ticking
 mod Accepted
 mod Bracketing
 mod BracketPlanned
+mod Asked
