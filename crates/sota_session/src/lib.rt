@@ -3,10 +3,10 @@
 
 mod ask;
 mod bracket;
-#[cfg(test)]
-mod bracket_tests;
 mod cut;
 mod edit;
+#[cfg(test)]
+mod file_tests;
 pub mod laws;
 #[cfg(test)]
 mod long_tests;

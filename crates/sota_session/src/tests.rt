@@ -4,7 +4,6 @@ ghost use Rattle.std.specs.Prelude.{◌≡◌, ◌≤◌, ◌<◌};
 use crate::{Answer, Ask, AskFault, EditFault, Session};
 use sota_hist::Histogram;
 use sota_network::{Arc, Network};
-use sota_polfile::{PolicyTable, write_policy};
 use sota_units::{ArcId, Grain, Mass, NoMemory, NodeId, Scale, Steps, Tick};
 use std::alloc::Global;
 use std::marker::Brand;
@@ -13,7 +12,7 @@ use std::sync::ledger::{Blank, Ledger};
 use std::test::Fail;
 
 /// A road from node 1 to node 2 that takes so many ticks.
-pub(crate) fn one_road(alloc: Global, tick: u32) -> Result<Network, NoMemory>
+fn road(alloc: Global, tick: u32) -> Result<Network, NoMemory>
     requires { 1 ≤ tick }
 {
     let mut arcs = Vec::new(alloc);
@@ -23,7 +22,7 @@ pub(crate) fn one_road(alloc: Global, tick: u32) -> Result<Network, NoMemory>
 }
 
 /// Node 1 leads to 3 by way of 2 or directly. The road from 1 to 2 takes one tick.
-pub(crate) fn triangle(alloc: Global) -> Result<Network, Fail> {
+fn three_roads(alloc: Global) -> Result<Network, Fail> {
     let scale = Scale::new(4).ok_or("a scale")?;
     let late = [(Tick(1), Mass(2)), (Tick(3), Mass(2))];
     let direct = [(Tick(3), Mass(3)), (Tick(5), Mass(1))];
@@ -40,6 +39,18 @@ pub(crate) fn triangle(alloc: Global) -> Result<Network, Fail> {
         time: Histogram::build(alloc, scale, &direct)?,
     })?;
     Ok(Network::build(alloc, 3, scale, arcs)?)
+}
+
+/// A session of the one road.
+pub(crate) fn one_road(alloc: Global, tick: u32) -> Result<Session, NoMemory>
+    requires { 1 ≤ tick }
+{
+    Session::new(alloc, road(alloc, tick)?)
+}
+
+/// A session of the triangle.
+pub(crate) fn triangle(alloc: Global) -> Result<Session, Fail> {
+    Ok(Session::new(alloc, three_roads(alloc)?)?)
 }
 
 fn ask_counted<M: Ledger, P: Ledger>(
@@ -73,37 +84,6 @@ pub(crate) fn ask(
     ask_counted::<Brand, Brand>(session, ask, Blank::new(1), Blank::new(1))
 }
 
-fn policy_counted<M: Ledger, P: Ledger>(
-    session: &mut Session,
-    ask: Ask,
-    products: Blank,
-    pushes: Blank,
-) -> Result<PolicyTable, AskFault>
-    requires products { (products.name ≡ M.name) × (products.parts ≡ M.parts)
-        × (0 < products.parts) }
-    requires pushes { (pushes.name ≡ P.name) × (pushes.parts ≡ P.parts)
-        × (0 < pushes.parts) }
-{
-    let mut products = Steps::<M>::new(products);
-    let mut pushes = Steps::<P>::new(pushes);
-    session.policy(ask, &mut products, &mut pushes)
-}
-
-/// The bytes of the policy of an ask.
-fn policy(
-    alloc: Global,
-    session: &mut Session,
-    (origin, dest, budget): (u32, u32, u32),
-) -> Result<Vec<u8>, AskFault> {
-    let ask = Ask {
-        origin: NodeId(origin),
-        dest: NodeId(dest),
-        budget,
-    };
-    let table = policy_counted::<Brand, Brand>(session, ask, Blank::new(1), Blank::new(1))?;
-    Ok(write_policy(alloc, &table)?)
-}
-
 /// What is done in a session of the triangle.
 #[derive(Clone, Copy)]
 enum Step {
@@ -111,7 +91,8 @@ enum Step {
     Ask(u32, u32, u32, u64, u32),
     /// An arc takes one of two ticks, the first three times as likely.
     Edit(u32, u32, u32),
-    Close(u32),
+    /// An arc is closed, or else why it is not.
+    Close(u32, Option<EditFault>),
 }
 
 const HALF: u64 = 500_000_000_000_000_000;
@@ -121,19 +102,20 @@ const SURELY: u64 = 1_000_000_000_000_000_000;
 // Steps, and the fronts after each. A longer budget adds what is missing, and a shorter one
 // nothing. An edit leaves the entries that it cannot change, one without a difference leaves all,
 // and the next ask adds the others again. Another destination begins afresh.
-const STEPS: [(Step, [u32; 3]); 12] = [
+const STEPS: [(Step, [u32; 3]); 13] = [
     (Step::Ask(1, 3, 2, HALF, 1), [3, 2, 0]),
     (Step::Ask(1, 3, 9, SURELY, 1), [10, 9, 0]),
     (Step::Ask(1, 3, 4, SURELY, 1), [10, 9, 0]),
     (Step::Edit(3, 3, 6), [5, 9, 0]),
     (Step::Ask(1, 3, 5, SURELY, 1), [6, 9, 0]),
-    (Step::Close(3), [3, 9, 0]),
+    (Step::Close(3, None), [3, 9, 0]),
     (Step::Ask(1, 3, 9, SURELY, 1), [10, 9, 0]),
     (Step::Edit(2, 1, 3), [2, 1, 0]),
     (Step::Ask(1, 3, 9, SURELY, 1), [10, 9, 0]),
     (Step::Edit(2, 1, 3), [10, 9, 0]),
-    (Step::Close(2), [2, 1, 0]),
+    (Step::Close(2, None), [2, 1, 0]),
     (Step::Ask(1, 2, 1, SURELY, 1), [2, 0, 0]),
+    (Step::Close(4, Some(EditFault::NoArc)), [2, 0, 0]),
 ];
 
 /// Takes one step.
@@ -150,8 +132,9 @@ fn take(rt: &impl Abort, alloc: Global, session: &mut Session, step: Step) -> Re
             let time = Histogram::build(alloc, session.network().scale(), &pairs)?;
             assert_eq!(rt; session.edit(ArcId(arc), time), Ok(()));
         }
-        Step::Close(arc) => {
-            assert_eq!(rt; session.edit(ArcId(arc), Histogram::closed(alloc)), Ok(()));
+        Step::Close(arc, fault) => {
+            let done = session.edit(ArcId(arc), Histogram::closed(alloc));
+            assert_eq!(rt; done.err(), fault);
         }
     }
     Ok(())
@@ -166,123 +149,36 @@ fn kept(session: &Session, node: u32) -> (u32, u32) {
 }
 
 /// Takes all steps.
-fn take_all(rt: &impl Abort, alloc: Global, session: &mut Session) -> Result<(), Fail> {
-    for (step, fronts) in STEPS {
-        take(rt, alloc, session, step)?;
+fn take_all(
+    rt: &impl Abort,
+    alloc: Global,
+    session: &mut Session,
+    steps: &[(Step, [u32; 3])],
+) -> Result<(), Fail> {
+    for (step, fronts) in steps {
+        take(rt, alloc, session, *step)?;
         let (one, two, three) = (kept(session, 1).0, kept(session, 2).0, kept(session, 3).0);
-        assert!(rt; [one, two, three] == fronts);
+        assert!(rt; [one, two, three] == *fronts);
     }
     Ok(())
 }
 
 #[test]
 fn asks_and_edits(rt: HostRuntime) -> Result<(), Fail> {
-    let mut session = Session::new(rt.alloc(), triangle(rt.alloc())?)?;
+    let mut session = triangle(rt.alloc())?;
     assert_eq!(rt; session.dest(), None);
     assert_eq!(rt; kept(&session, 1), (0, 65536));
-    take_all(&rt, rt.alloc(), &mut session)?;
+    take_all(&rt, rt.alloc(), &mut session, &STEPS)?;
     assert_eq!(rt; session.dest(), Some(NodeId(2)));
     assert_eq!(rt; kept(&session, 1), (2, 1));
-    let closed = Histogram::closed(rt.alloc());
-    assert_eq!(rt; session.edit(ArcId(4), closed), Err(EditFault::NoArc));
-    assert_eq!(rt; kept(&session, 1), (2, 1));
     Ok(())
-}
-
-// The triangle's policy from 1 to 3 in 3 ticks, in numbers of four bytes: two rows of two entries.
-const TRIANGLE: [u32; 26] = [
-    0x534f_5441,
-    0x504f_4c31,
-    3,
-    3,
-    1,
-    3,
-    4,
-    2,
-    1,
-    2,
-    2,
-    1,
-    0x06f0_5b59,
-    0xd3b2_0000,
-    3,
-    0x0a68_8906,
-    0xbd8b_0000,
-    2,
-    1,
-    2,
-    2,
-    0x06f0_5b59,
-    0xd3b2_0000,
-    2,
-    0x06f0_5b59,
-    0xd3b2_0000,
-];
-
-// One road of 5 ticks is always in time. Who is there already, or cannot be in time, has no row.
-const SURE: [u32; 14] = [
-    0x534f_5441,
-    0x504f_4c31,
-    2,
-    2,
-    1,
-    5,
-    1,
-    1,
-    1,
-    5,
-    1,
-    1,
-    0x0de0_b6b3,
-    0xa764_0000,
-];
-
-const THERE: [u32; 8] = [0x534f_5441, 0x504f_4c31, 2, 2, 2, 5, 1, 0];
-
-const LATE: [u32; 8] = [0x534f_5441, 0x504f_4c31, 2, 2, 1, 4, 1, 0];
-
-/// The bytes of numbers of four bytes.
-pub(crate) fn bytes_of(alloc: Global, numbers: &[u32]) -> Result<Vec<u8>, NoMemory> {
-    let mut bytes = Vec::new(alloc);
-    for number in numbers {
-        bytes.extend_from_slice(&number.to_be_bytes())?;
-    }
-    Ok(bytes)
-}
-
-/// The policy of an ask has these bytes.
-fn same_policy(
-    rt: &impl Abort,
-    alloc: Global,
-    session: &mut Session,
-    ask: (u32, u32, u32),
-    numbers: &[u32],
-) -> Result<(), Fail> {
-    let file = policy(alloc, session, ask).ok().ok_or("a policy")?;
-    let bytes = bytes_of(alloc, numbers)?;
-    assert!(rt; file.as_slice() == bytes.as_slice());
-    Ok(())
-}
-
-#[test]
-fn policies(rt: HostRuntime) -> Result<(), Fail> {
-    let mut session = Session::new(rt.alloc(), triangle(rt.alloc())?)?;
-    same_policy(&rt, rt.alloc(), &mut session, (1, 3, 3), &TRIANGLE)
-}
-
-#[test]
-fn policies_of_one_arc(rt: HostRuntime) -> Result<(), Fail> {
-    let mut session = Session::new(rt.alloc(), one_road(rt.alloc(), 5)?)?;
-    same_policy(&rt, rt.alloc(), &mut session, (1, 2, 5), &SURE)?;
-    same_policy(&rt, rt.alloc(), &mut session, (2, 2, 5), &THERE)?;
-    same_policy(&rt, rt.alloc(), &mut session, (1, 2, 4), &LATE)
 }
 
 // An ask that found no memory, asked again. Here there is enough; `rt try --test --fail-alloc N`
 // has one allocation find none.
 #[test]
 fn asks_after_a_want(rt: HostRuntime) -> Result<(), Fail> {
-    let mut session = Session::new(rt.alloc(), triangle(rt.alloc())?)?;
+    let mut session = triangle(rt.alloc())?;
     let answer = Answer {
         lower: Grain::new(SURELY).ok_or("a whole")?,
         upper: Grain::new(SURELY).ok_or("a whole")?,
@@ -297,7 +193,7 @@ fn asks_after_a_want(rt: HostRuntime) -> Result<(), Fail> {
 
 #[test]
 fn refused_asks(rt: HostRuntime) -> Result<(), Fail> {
-    let mut session = Session::new(rt.alloc(), one_road(rt.alloc(), 2)?)?;
+    let mut session = one_road(rt.alloc(), 2)?;
     let refused = [
         (3, 0, 65536, AskFault::NoOrigin),
         (0, 1, 0, AskFault::NoOrigin),
@@ -307,8 +203,6 @@ fn refused_asks(rt: HostRuntime) -> Result<(), Fail> {
     for (origin, dest, budget, fault) in refused {
         assert_eq!(rt; ask(&mut session, origin, dest, budget), Err(fault));
     }
-    let refused = policy(rt.alloc(), &mut session, (1, 3, 5)).err();
-    assert_eq!(rt; refused, Some(AskFault::NoDest));
     Ok(())
 }
 
