@@ -1,7 +1,9 @@
 // A bracket file that was made by hand, and each fault once.
 use super::*;
+use crate::tests::{Case, changed};
 use sota_units::NoMemory;
 use std::alloc::{AllocError, Global};
+use std::process::Abort;
 use std::test::Fail;
 
 // From 1 to 3 in 3 ticks: two rows of two entries, and none at the destination.
@@ -67,6 +69,12 @@ fn bracket_parts(rt: HostRuntime) -> Result<(), Fail> {
     let alloc = rt.alloc();
     let city = table_of(CITY_HEAD, rows(alloc, 1, 0, &[])?)?;
     assert_eq!(rt; write_bracket(alloc, &city)?.as_slice(), CITY.as_slice());
+    Ok(())
+}
+
+#[test]
+fn no_bracket_parts(rt: HostRuntime) -> Result<(), Fail> {
+    let alloc = rt.alloc();
     let cases = [
         // The last budget is after the head's.
         (3, 3, 0, PolicyFault::Range(2)),
@@ -86,7 +94,7 @@ fn bracket_parts(rt: HostRuntime) -> Result<(), Fail> {
 }
 
 #[test]
-fn both_versions_are_read(rt: HostRuntime) -> Result<(), Fail> {
+fn brackets_are_read(rt: HostRuntime) -> Result<(), Fail> {
     let alloc = rt.alloc();
     let AnyTable::Two(table) = read_any(alloc, &CITY)? else {
         return Err("another version".into());
@@ -100,6 +108,12 @@ fn both_versions_are_read(rt: HostRuntime) -> Result<(), Fail> {
         assert_eq!(rt; row.entries.is_empty(), first == 0);
     }
     assert_eq!(rt; read_policy(alloc, &CITY).err(), Some(PolicyFault::Magic));
+    Ok(())
+}
+
+#[test]
+fn policies_are_read_as_either(rt: HostRuntime) -> Result<(), Fail> {
+    let alloc = rt.alloc();
     let head = PolicyHead {
         dest: 1,
         ..CITY_HEAD
@@ -114,43 +128,58 @@ fn both_versions_are_read(rt: HostRuntime) -> Result<(), Fail> {
     Ok(())
 }
 
+/// The fault of a policy file of either version, none where it is read.
+fn fault_of(alloc: Global, bytes: &[u8]) -> Option<PolicyFault> {
+    // No file of these tests is longer.
+    if bytes.len() > 200 {
+        return None;
+    }
+    read_any(alloc, bytes).err()
+}
+
+// The first number of each file, which changes nothing.
+const SOTA: u32 = 0x534f_5441;
+
+const FAULTS: [Case; 18] = [
+    // As version 1 its first row has very many entries.
+    (132, 4, 0x504f_4c31, PolicyFault::Range(1)),
+    (7, 0, SOTA, PolicyFault::Magic),
+    (132, 4, 0x504f_4c33, PolicyFault::Magic),
+    (8, 0, SOTA, PolicyFault::Truncated(0)),
+    (27, 0, SOTA, PolicyFault::Truncated(0)),
+    (132, 8, 0, PolicyFault::Range(0)),
+    (28, 0, SOTA, PolicyFault::Truncated(28)),
+    (35, 0, SOTA, PolicyFault::Truncated(28)),
+    // The first budget of node 1, and its count.
+    (132, 28, 3, PolicyFault::Range(1)),
+    (132, 28, 65_538, PolicyFault::Range(1)),
+    (132, 32, 3, PolicyFault::Range(1)),
+    (75, 0, SOTA, PolicyFault::Truncated(56)),
+    (76, 0, SOTA, PolicyFault::Truncated(76)),
+    (131, 0, SOTA, PolicyFault::Truncated(124)),
+    // The destination has a first budget, or an entry.
+    (132, 124, 1, PolicyFault::Range(3)),
+    (132, 128, 1, PolicyFault::Range(3)),
+    // The destination is no node.
+    (132, 8, 2, PolicyFault::Range(0)),
+    // One byte too many.
+    (133, 0, SOTA, PolicyFault::Trailing(132)),
+];
+
+/// Files that differ so from the city's have these faults.
+fn faults_are(rt: &impl Abort, alloc: Global, cases: &[Case]) -> Result<(), Fail> {
+    for (len, place, number, fault) in cases {
+        let bytes = changed(alloc, &CITY, *len, *place, *number)?;
+        assert_eq!(rt;
+            fault_of(alloc, &bytes),
+            Some(*fault),
+            "{number} at {place} of {len}"
+        );
+    }
+    Ok(())
+}
+
 #[test]
 fn bracket_faults(rt: HostRuntime) -> Result<(), Fail> {
-    let cases = [
-        // As version 1 its first row has very many entries.
-        (132, 7, 0x31, PolicyFault::Range(1)),
-        (7, 0, 0x53, PolicyFault::Magic),
-        (132, 7, 0x33, PolicyFault::Magic),
-        (8, 0, 0x53, PolicyFault::Truncated(0)),
-        (27, 0, 0x53, PolicyFault::Truncated(0)),
-        (132, 11, 0, PolicyFault::Range(0)),
-        (28, 0, 0x53, PolicyFault::Truncated(28)),
-        (35, 0, 0x53, PolicyFault::Truncated(28)),
-        // The first budget of node 1, and its count.
-        (132, 31, 3, PolicyFault::Range(1)),
-        (132, 29, 1, PolicyFault::Range(1)),
-        (132, 35, 3, PolicyFault::Range(1)),
-        (75, 0, 0x53, PolicyFault::Truncated(56)),
-        (76, 0, 0x53, PolicyFault::Truncated(76)),
-        (131, 0, 0x53, PolicyFault::Truncated(124)),
-        // The destination has a first budget, or an entry.
-        (132, 127, 1, PolicyFault::Range(3)),
-        (132, 131, 1, PolicyFault::Range(3)),
-        // The destination is no node.
-        (132, 11, 2, PolicyFault::Range(0)),
-    ];
-    for (len, place, byte, fault) in cases {
-        let mut bytes = Vec::from_slice(rt.alloc(), &CITY)?;
-        bytes.truncate(len);
-        if place < bytes.len() {
-            bytes[place] = byte;
-        }
-        let read = read_any(rt.alloc(), &bytes).err();
-        assert_eq!(rt; read, Some(fault), "{byte} at {place} of {len}");
-    }
-    let mut longer = Vec::from_slice(rt.alloc(), &CITY)?;
-    longer.push(0)?;
-    let read = read_any(rt.alloc(), &longer).err();
-    assert_eq!(rt; read, Some(PolicyFault::Trailing(132)));
-    Ok(())
+    faults_are(&rt, rt.alloc(), &FAULTS)
 }

@@ -2,6 +2,7 @@
 use super::*;
 use sota_units::NoMemory;
 use std::alloc::{AllocError, Global};
+use std::process::Abort;
 use std::test::Fail;
 
 // Two rows of two entries.
@@ -98,21 +99,41 @@ fn road_head(budget: u32) -> PolicyHead {
     }
 }
 
+/// The file of the table of these parts is this one.
+fn same_file(
+    rt: &impl Abort,
+    alloc: Global,
+    head: PolicyHead,
+    rows: Vec<PolicyRow>,
+    bytes: &[u8],
+) -> Result<(), Fail> {
+    let table = PolicyTable::from_parts(head, rows)?;
+    assert_eq!(rt; write_policy(alloc, &table)?.as_slice(), bytes);
+    Ok(())
+}
+
 #[test]
 fn parts(rt: HostRuntime) -> Result<(), Fail> {
     let alloc = rt.alloc();
-    let city = PolicyTable::from_parts(CITY_HEAD, city_rows(alloc, 2)?)?;
-    assert_eq!(rt; write_policy(alloc, &city)?.as_slice(), CITY.as_slice());
-    let sure = PolicyTable::from_parts(road_head(5), one_row(alloc, 5, 2 * HALF)?)?;
-    assert_eq!(rt; write_policy(alloc, &sure)?.as_slice(), SURE.as_slice());
-    let late = PolicyTable::from_parts(road_head(4), one_row(alloc, 4, 0)?)?;
-    assert_eq!(rt; write_policy(alloc, &late)?.as_slice(), LATE.as_slice());
-    let stuck = PolicyTable::from_parts(road_head(4), Vec::new(alloc))?;
-    assert_eq!(rt; write_policy(alloc, &stuck)?.as_slice(), STUCK.as_slice());
-    let unordered = PolicyTable::from_parts(CITY_HEAD, city_rows(alloc, 1)?);
-    assert_eq!(rt; unordered.err(), Some(PolicyFault::Order(2)));
-    let at_dest = PolicyTable::from_parts(CITY_HEAD, city_rows(alloc, 3)?);
-    assert_eq!(rt; at_dest.err(), Some(PolicyFault::Range(2)));
+    same_file(&rt, alloc, CITY_HEAD, city_rows(alloc, 2)?, &CITY)?;
+    same_file(
+        &rt,
+        alloc,
+        road_head(5),
+        one_row(alloc, 5, 2 * HALF)?,
+        &SURE,
+    )?;
+    same_file(&rt, alloc, road_head(4), one_row(alloc, 4, 0)?, &LATE)?;
+    same_file(&rt, alloc, road_head(4), Vec::new(alloc), &STUCK)
+}
+
+#[test]
+fn no_parts(rt: HostRuntime) -> Result<(), Fail> {
+    let alloc = rt.alloc();
+    for (second, fault) in [(1, PolicyFault::Order(2)), (3, PolicyFault::Range(2))] {
+        let table = PolicyTable::from_parts(CITY_HEAD, city_rows(alloc, second)?);
+        assert_eq!(rt; table.err(), Some(fault));
+    }
     let headless = PolicyTable::from_parts(road_head(65_536), Vec::new(alloc));
     assert_eq!(rt; headless.err(), Some(PolicyFault::Range(0)));
     Ok(())
@@ -138,29 +159,40 @@ fn files_are_read(rt: HostRuntime) -> Result<(), Fail> {
     Ok(())
 }
 
+// Nodes and budgets of the city, and the arc and the value that are found there.
+const FOUND: [(u32, u32, Option<(u32, u64)>); 10] = [
+    (1, 1, None),
+    (1, 2, Some((1, HALF))),
+    (1, 3, Some((3, HALF + HALF / 2))),
+    (1, 4, None),
+    (2, 0, None),
+    (2, 1, Some((2, HALF))),
+    (2, 2, Some((2, HALF))),
+    (2, 3, None),
+    (0, 1, None),
+    (3, 1, None),
+];
+
+/// What is found stands where it should.
+fn all_found(
+    rt: &impl Abort,
+    table: &PolicyTable,
+    cases: &[(u32, u32, Option<(u32, u64)>)],
+) -> Result<(), Fail> {
+    for (node, budget, found) in cases {
+        let entry = table
+            .entry(*node, *budget)
+            .map(|entry| (entry.arc, entry.value));
+        assert_eq!(rt; entry, *found, "at {node} {budget}");
+    }
+    Ok(())
+}
+
 #[test]
 fn entries_are_found(rt: HostRuntime) -> Result<(), Fail> {
     let table = read_policy(rt.alloc(), &CITY)?;
-    let cases = [
-        (1, 1, None),
-        (1, 2, Some((1, HALF))),
-        (1, 3, Some((3, HALF + HALF / 2))),
-        (1, 4, None),
-        (2, 0, None),
-        (2, 1, Some((2, HALF))),
-        (2, 2, Some((2, HALF))),
-        (2, 3, None),
-        (0, 1, None),
-        (3, 1, None),
-    ];
-    for (node, budget, found) in cases {
-        let entry = table
-            .entry(node, budget)
-            .map(|entry| (entry.arc, entry.value));
-        assert_eq!(rt; entry, found, "at {node} {budget}");
-    }
-    let places = [(0, Err(0)), (1, Ok(0)), (2, Ok(1)), (3, Err(2))];
-    for (node, place) in places {
+    all_found(&rt, &table, &FOUND)?;
+    for (node, place) in [(0, Err(0)), (1, Ok(0)), (2, Ok(1)), (3, Err(2))] {
         assert_eq!(rt; table.place(node), place);
     }
     for row in table.rows() {
@@ -180,58 +212,81 @@ fn put(bytes: &mut [u8], place: usize, number: u32) {
     }
 }
 
-#[test]
-fn faults(rt: HostRuntime) -> Result<(), Fail> {
-    let cases = [
-        (104, 4, 0x504f_4c32, PolicyFault::Magic),
-        (31, 8, 3, PolicyFault::Truncated(0)),
-        (104, 8, 0, PolicyFault::Range(0)),
-        (104, 8, 1_000_001, PolicyFault::Range(0)),
-        (104, 12, 0, PolicyFault::Range(0)),
-        (104, 12, 4, PolicyFault::Range(0)),
-        (104, 16, 0, PolicyFault::Range(0)),
-        (104, 16, 4, PolicyFault::Range(0)),
-        (104, 20, 65_536, PolicyFault::Range(0)),
-        (104, 24, 0, PolicyFault::Range(0)),
-        (104, 24, 1_000_000_001, PolicyFault::Range(0)),
-        // The head alone, which claims very many rows.
-        (32, 28, u32::MAX, PolicyFault::Truncated(32)),
-        (104, 28, 3, PolicyFault::Truncated(104)),
-        (104, 28, 1, PolicyFault::Trailing(68)),
-        (104, 32, 0, PolicyFault::Range(1)),
-        (104, 32, 3, PolicyFault::Range(1)),
-        (104, 32, 4, PolicyFault::Range(1)),
-        (104, 36, 3, PolicyFault::Range(1)),
-        (104, 40, 0, PolicyFault::Range(1)),
-        (104, 40, 3, PolicyFault::Range(1)),
-        (104, 68, 1, PolicyFault::Order(2)),
-        (104, 68, 0, PolicyFault::Order(2)),
-        (104, 68, 3, PolicyFault::Range(2)),
-        (103, 32, 1, PolicyFault::Truncated(92)),
-    ];
+/// So many bytes of a file, with a number of four bytes at a place, and their fault.
+pub(crate) type Case = (usize, usize, u32, PolicyFault);
+
+/// The first bytes of a file, so many, or zeros after all of them, with a number at a place.
+pub(crate) fn changed(
+    alloc: Global,
+    file: &[u8],
+    len: usize,
+    place: usize,
+    number: u32,
+) -> Result<Vec<u8>, AllocError> {
+    let mut bytes = Vec::from_slice(alloc, file)?;
+    bytes.resize(len, 0)?;
+    put(&mut bytes, place, number);
+    Ok(bytes)
+}
+
+/// The fault of a policy file, none where it is read.
+fn fault_of(alloc: Global, bytes: &[u8]) -> Option<PolicyFault> {
+    // No file of these tests is longer.
+    if bytes.len() > 200 {
+        return None;
+    }
+    read_policy(alloc, bytes).err()
+}
+
+const FAULTS: [Case; 25] = [
+    (104, 4, 0x504f_4c32, PolicyFault::Magic),
+    (31, 8, 3, PolicyFault::Truncated(0)),
+    (104, 8, 0, PolicyFault::Range(0)),
+    (104, 8, 1_000_001, PolicyFault::Range(0)),
+    (104, 12, 0, PolicyFault::Range(0)),
+    (104, 12, 4, PolicyFault::Range(0)),
+    (104, 16, 0, PolicyFault::Range(0)),
+    (104, 16, 4, PolicyFault::Range(0)),
+    (104, 20, 65_536, PolicyFault::Range(0)),
+    (104, 24, 0, PolicyFault::Range(0)),
+    (104, 24, 1_000_000_001, PolicyFault::Range(0)),
+    // The head alone, which claims very many rows.
+    (32, 28, u32::MAX, PolicyFault::Truncated(32)),
+    (104, 28, 3, PolicyFault::Truncated(104)),
+    (104, 28, 1, PolicyFault::Trailing(68)),
+    (104, 32, 0, PolicyFault::Range(1)),
+    (104, 32, 3, PolicyFault::Range(1)),
+    (104, 32, 4, PolicyFault::Range(1)),
+    (104, 36, 3, PolicyFault::Range(1)),
+    (104, 40, 0, PolicyFault::Range(1)),
+    (104, 40, 3, PolicyFault::Range(1)),
+    (104, 68, 1, PolicyFault::Order(2)),
+    (104, 68, 0, PolicyFault::Order(2)),
+    (104, 68, 3, PolicyFault::Range(2)),
+    (103, 32, 1, PolicyFault::Truncated(92)),
+    // One byte too many.
+    (105, 0, 0x534f_5441, PolicyFault::Trailing(104)),
+];
+
+/// Files that differ so from the city's have these faults.
+fn faults_are(rt: &impl Abort, alloc: Global, cases: &[Case]) -> Result<(), Fail> {
     for (len, place, number, fault) in cases {
-        let mut bytes = Vec::from_slice(rt.alloc(), &CITY)?;
-        bytes.truncate(len);
-        put(&mut bytes, place, number);
+        let bytes = changed(alloc, &CITY, *len, *place, *number)?;
         assert_eq!(rt;
-            read_policy(rt.alloc(), &bytes).err(),
-            Some(fault),
+            fault_of(alloc, &bytes),
+            Some(*fault),
             "{number} at {place}"
         );
     }
-    let mut bytes = Vec::from_slice(rt.alloc(), &CITY)?;
-    put(&mut bytes, 36, u32::MAX);
+    Ok(())
+}
+
+#[test]
+fn faults(rt: HostRuntime) -> Result<(), Fail> {
+    faults_are(&rt, rt.alloc(), &FAULTS)?;
+    let mut bytes = changed(rt.alloc(), &CITY, 104, 36, u32::MAX)?;
     put(&mut bytes, 40, u32::MAX);
-    assert_eq!(rt;
-        read_policy(rt.alloc(), &bytes).err(),
-        Some(PolicyFault::Range(1))
-    );
-    let mut longer = Vec::from_slice(rt.alloc(), &CITY)?;
-    longer.push(0)?;
-    assert_eq!(rt;
-        read_policy(rt.alloc(), &longer).err(),
-        Some(PolicyFault::Trailing(104))
-    );
+    assert_eq!(rt; fault_of(rt.alloc(), &bytes), Some(PolicyFault::Range(1)));
     Ok(())
 }
 
@@ -240,16 +295,17 @@ fn prefixes(rt: HostRuntime) -> Result<(), Fail> {
     let table = read_policy(rt.alloc(), &CITY)?;
     for len in 0..CITY.len() {
         let fault = cut_fault(&table, len as u64);
-        assert_eq!(rt;
-            read_policy(rt.alloc(), &CITY[..len]).err(),
-            Some(fault),
-            "at {len}"
-        );
+        assert_eq!(rt; fault_of(rt.alloc(), &CITY[..len]), Some(fault), "at {len}");
     }
-    assert_eq!(rt; cut_fault(&table, 7), PolicyFault::Magic);
-    assert_eq!(rt; cut_fault(&table, 31), PolicyFault::Truncated(0));
-    assert_eq!(rt; cut_fault(&table, 32), PolicyFault::Truncated(32));
-    assert_eq!(rt; cut_fault(&table, 43), PolicyFault::Truncated(32));
-    assert_eq!(rt; cut_fault(&table, 103), PolicyFault::Truncated(92));
+    let cuts = [
+        (7, PolicyFault::Magic),
+        (31, PolicyFault::Truncated(0)),
+        (32, PolicyFault::Truncated(32)),
+        (43, PolicyFault::Truncated(32)),
+        (103, PolicyFault::Truncated(92)),
+    ];
+    for (len, fault) in cuts {
+        assert_eq!(rt; cut_fault(&table, len), fault);
+    }
     Ok(())
 }
