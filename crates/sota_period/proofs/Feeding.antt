@@ -123,6 +123,12 @@ fed-on rows arc known old new at was on = record {
   total = on.same.total ∙ was.total;
 }
 
+-- the summer of an arc, where it has one, was fed its head's row, and the others stay
+pub record IsFedThere (rows : List (Row ℕ)) (net : Net) (number : ℕ) (before after : ℕ → Option SummerState) : Type 0 where
+  pub fed : AllFed rows net after
+  pub same : AreSame before after
+  pub reach : (arc : Arc) (s : SummerState) → arc_at net number ≡ Some arc → after number ≡ Some s → length (row_of rows arc.head) ≤ length s.values
+
 module _ {Z : Type 0} (state : Z → SummerState) (rows : List (Row ℕ)) (net : Net) (broad : SummerList Z) (number i : ℕ) (summer new : Box Z Global) (arc : Arc) (known : ℕ)
     (same : i ≡ number) (inside : (1 ≤ number) × (number ≤ length net.arcs)) (long : length broad ≡ length net.arcs) (at : arc_at net number ≡ Some arc)
     (found : state_at state broad number ≡ Some (state summer.value)) (whole : known ≡ length (row_of rows arc.head))
@@ -139,7 +145,7 @@ module _ {Z : Type 0} (state : Z → SummerState) (rows : List (Row ℕ)) (net :
       subst (λ (b : Arc). IsFedArc rows b s) two
       (subst (λ (t : SummerState). IsFedArc rows arc t) one (fed-on rows arc known (state summer.value) (state new.value) whole (was number arc (state summer.value) at found) on))
 
-  pub set-fed : AllFed rows net (state_at state broad) → AllFed rows net (state_at state (set broad (i - 1) (Some new)))
+  set-fed : AllFed rows net (state_at state broad) → AllFed rows net (state_at state (set broad (i - 1) (Some new)))
   set-fed was zero a s number-is is = absurd (cc)
   set-fed was (suc k) a s number-is is =
       ⊎_elim
@@ -150,7 +156,7 @@ module _ {Z : Type 0} (state : Z → SummerState) (rows : List (Row ℕ)) (net :
       was (suc k) a s number-is (ap (state_of state) (sym (get_or-set_other broad (i - 1) (suc k - 1) (Some new) None apart)) ∙ is))
       (cases_eq (suc k) number)
 
-  pub set-reach : (a : Arc) (s : SummerState) → arc_at net number ≡ Some a → state_at state (set broad (i - 1) (Some new)) number ≡ Some s → length (row_of rows a.head) ≤ length s.values
+  set-reach : (a : Arc) (s : SummerState) → arc_at net number ≡ Some a → state_at state (set broad (i - 1) (Some new)) number ≡ Some s → length (row_of rows a.head) ≤ length s.values
   set-reach a s number-is is =
       let both : Some (state new.value) ≡ Some s = sym own ∙ is in
       let one : length (state new.value).values ≡ length s.values = (let eq : state new.value ≡ s = cc in ap (λ (t : SummerState). length t.values) eq) in
@@ -158,7 +164,7 @@ module _ {Z : Type 0} (state : Z → SummerState) (rows : List (Row ℕ)) (net :
       let two : length (row_of rows arc.head) ≡ length (row_of rows a.head) = (let eq : arc ≡ a = cc in ap (λ (b : Arc). length (row_of rows b.head)) eq) in
       omega (arith, one, two, on.count, whole)
 
-  pub set-same : AreSame (state_at state broad) (state_at state (set broad (i - 1) (Some new)))
+  set-same : AreSame (state_at state broad) (state_at state (set broad (i - 1) (Some new)))
   set-same e s low is =
       ⊎_elim
       (λ (here : e ≡ number).
@@ -169,6 +175,9 @@ module _ {Z : Type 0} (state : Z → SummerState) (rows : List (Row ℕ)) (net :
       let apart : e - 1 ≡ i - 1 → ⊥ = λ eq. off (omega (arith, eq, same, inside.0, low)) in
       (s, ap (state_of state) (sym (get_or-set_other broad (i - 1) (e - 1) (Some new) None apart)) ∙ is, same-summer s))
       (cases_eq e number)
+
+  pub fed-there : AllFed rows net (state_at state broad) → IsFedThere rows net number (state_at state broad) (state_at state (set broad (i - 1) (Some new)))
+  fed-there was = record { fed = set-fed was; same = set-same; reach = set-reach }
 
 -- rows that go on
 pub grown-fed : (rows new : List (Row ℕ)) (net : Net) (at : ℕ → Option SummerState) → AreLonger rows new → AllFed rows net at → AllFed new net at

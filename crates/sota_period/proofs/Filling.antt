@@ -254,14 +254,6 @@ next-is laws ask is low net here rows are i off need =
     ∙ ap (λ (n : Net). choice_of n.arcs (λ a. plain_sum a (tlo (asked_net ask) ask.dest) ask.budget) i) (sym here)
     ∙ (rw (ne_eqb i ask.dest off) refl)
 
-pub longer-same : (rows : List (Row ℕ)) → AreLonger rows rows
-longer-same rows = record {
-  count = refl;
-  room = λ i. refl;
-  long = λ i. omega arith;
-  entry = λ i t less. refl;
-}
-
 -- a block that is done
 pub block-rows : (ask : Ask) (from to : ℕ) (rows : List (Row ℕ)) → IsAsk ask → AreRows ask from rows
     → ((k : ℕ) → k < length ask.visited.now → min to (asked_need ask (slice_index ask.visited.now k)) ≤ length (row_of rows (slice_index ask.visited.now k)))

@@ -81,3 +81,12 @@ Holds ask net from to = (t : ℕ) → from ≤ t → t < to → (asked_net ask).
 -- no open arc is passed in less time
 abbrev pub TakesAtLeast : ℕ → List Arc → Type 0
 TakesAtLeast ticks arcs = All (λ arc. is_closed arc.time ≡ false → ticks ≤ least_tick arc.time) arcs
+
+-- a block of so many budgets in a row, at which this is the network and no value reads another,
+-- since each open arc takes at least as many ticks
+pub record IsBlock (ask : Ask) (net : Net) (from count : ℕ) : Type 0 where
+  pub asked : IsAsk ask
+  pub some : 1 ≤ count
+  pub limit : from + count ≤ ask.budget + 1
+  pub holds : Holds ask net from (from + count)
+  pub takes : TakesAtLeast count net.arcs

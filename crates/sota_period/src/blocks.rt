@@ -1,7 +1,7 @@
 // Blocks of budgets at which no value reads another.
 ghost use Rattle.std.specs.Prelude.{◌≡◌, ◌+◌, ◌<◌, ◌≤◌, false, length, OnOk};
 ghost use Rattle.sota_hist.specs.Time.{is_closed, least_tick};
-ghost use Rattle.sota_period.specs.Rows.{AreRows, Holds, IsAsk, TakesAtLeast};
+ghost use Rattle.sota_period.specs.Rows.{AreRows, Holds, IsAsk, IsBlock, TakesAtLeast};
 ghost use Rattle.sota_period.specs.Broad.{AllFed, AllReady, AreSame, state_at};
 
 use crate::ask::Ask;
@@ -56,11 +56,7 @@ fn fill_block<Z: Summer, M: Ledger>(
     workspace: &mut Workspace,
     products: &mut Steps<M>,
 )
-    requires ask { IsAsk ask.now }
-    requires holds { Holds ask.now network.now from (from + length bests.old) }
-    requires takes { TakesAtLeast (length bests.old) network.now.arcs }
-    requires some { 1 ≤ length bests.old }
-    requires limit { from + length bests.old ≤ ask.now.budget + 1 }
+    requires block { IsBlock ask.now network.now from (length bests.old) }
     requires sums { length sums.old ≡ length bests.old }
     requires grains { length grains.old ≡ length bests.old }
     requires rows { AreRows ask.now from rows.old }

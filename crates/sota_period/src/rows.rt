@@ -7,7 +7,7 @@ ghost use Rattle.sota_bank.specs.Rows.{with_list};
 ghost use Rattle.sota_network.specs.Network.{IsNode};
 ghost use Rattle.sota_network.specs.Grid.{best_sum};
 ghost use Rattle.sota_sums.specs.Bounds.{rounded_in};
-ghost use Rattle.sota_period.specs.Rows.{AreLonger, AreRows, Holds, IsAsk, TakesAtLeast};
+ghost use Rattle.sota_period.specs.Rows.{AreLonger, AreRows, IsBlock};
 ghost use Rattle.sota_period.specs.Rows.{asked_need, row_of, row_room, row_value};
 ghost use Rattle.sota_period.specs.Broad.{AllFed, AllRead, AllReady, AreSame, state_at};
 
@@ -86,13 +86,9 @@ pub(crate) fn extend_row<Z: Summer, M: Ledger>(
     workspace: &mut Workspace,
     products: &mut Steps<M>,
 )
-    requires ask { IsAsk ask.now }
     requires node { IsNode network.now node }
     requires off { node ≢ ask.now.dest }
-    requires holds { Holds ask.now network.now from (from + length bests.old) }
-    requires takes { TakesAtLeast (length bests.old) network.now.arcs }
-    requires some { 1 ≤ length bests.old }
-    requires limit { from + length bests.old ≤ ask.now.budget + 1 }
+    requires block { IsBlock ask.now network.now from (length bests.old) }
     requires sums { length sums.old ≡ length bests.old }
     requires grains { length grains.old ≡ length bests.old }
     requires rows { AreRows ask.now from rows.old }

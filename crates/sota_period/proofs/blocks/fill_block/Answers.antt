@@ -3,7 +3,7 @@ use Rattle.std.proofs.lemmas.Bool.{cases_lt}
 use Rattle.std.proofs.lemmas.List.{get_or_default}
 use Rattle.sota_network.specs.Network.{Net}
 use Rattle.sota_period.specs.declared.ask.Ask.{Ask}
-use Rattle.sota_period.specs.Rows.{asked_need, asked_nodes, row_of}
+use Rattle.sota_period.specs.Rows.{IsBlock, asked_need, asked_nodes, row_of}
 use Rattle.sota_online.specs.Summer.{SummerState}
 use Rattle.sota_period.specs.Broad.{state_at}
 use Rattle.sota_period.proofs.Feeding.{same-then, same-ready, later-ready}
@@ -16,14 +16,18 @@ extend_row-requires-clause-node g c =
     let net : Net = c.args.network.now in
     let k : ℕ = c.loop-node.node-index in
     let node : ℕ = c.node-item.result in
-    let here = c.requires.ask.visited.only k node c.loop-node-test.true in
-    let nodes : net.nodes ≡ asked_nodes ask = nodes-held c.network_laws.ensures ask c.requires.ask net c.args.from (c.requires.holds c.args.from (omega arith) (omega (arith, c.requires.some))) in
+    let here = c.requires.block.asked.visited.only k node c.loop-node-test.true in
+    let nodes : net.nodes ≡ asked_nodes ask = nodes-held c.network_laws.ensures ask c.requires.block.asked net c.args.from (c.requires.block.holds c.args.from (omega arith) (omega (arith, c.requires.block.some))) in
     let place : node ≡ get_or ask.visited.now k node = c.node-item.is in
-    (omega (arith, place, here.0), omega (arith, place, here.1, nodes, c.requires.ask.needs.count))
+    (omega (arith, place, here.0), omega (arith, place, here.1, nodes, c.requires.block.asked.needs.count))
 
 pub extend_row-requires-clause-off : goal.extend_row-requires-clause-off
 extend_row-requires-clause-off g c = λ same.
-    (c.requires.ask.visited.only c.loop-node.node-index c.node-item.result c.loop-node-test.true).2 (sym c.node-item.is ∙ same)
+    (c.requires.block.asked.visited.only c.loop-node.node-index c.node-item.result c.loop-node-test.true).2 (sym c.node-item.is ∙ same)
+
+pub extend_row-requires-clause-block : goal.extend_row-requires-clause-block
+extend_row-requires-clause-block g c =
+    subst (λ (count : ℕ). IsBlock c.args.ask.now c.args.network.now c.args.from count) (sym c.loop-node.invariant.bests) c.requires.block
 
 pub extend_row-requires-clause-ready : goal.extend_row-requires-clause-ready
 extend_row-requires-clause-ready g c =
@@ -59,5 +63,5 @@ loop-node-preserved g c =
 
 pub returns-clause-rows : goal.returns-clause-rows
 returns-clause-rows g c =
-    block-rows c.args.ask.now c.args.from (c.args.from + length c.args.bests.now) c.loop-node.rows c.requires.ask c.loop-node.invariant.rows
+    block-rows c.args.ask.now c.args.from (c.args.from + length c.args.bests.now) c.loop-node.rows c.requires.block.asked c.loop-node.invariant.rows
     (λ k less. c.loop-node.invariant.done k (omega (arith, less, c.loop-node-test.false)))

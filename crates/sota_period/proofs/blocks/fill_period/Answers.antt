@@ -6,7 +6,9 @@ use Rattle.sota_period.specs.Rows.{AreRows, asked_net}
 use Rattle.sota_period.specs.Broad.{SummerList, AllFed, AllReady, state_of, state_at, first_state}
 use Rattle.sota_period.proofs.Feeding.{start-fed, start-ready, same-ready, later-ready}
 use Rattle.sota_period.proofs.Filling.{valid-held, nodes-held}
+use Rattle.sota_period.proofs.blocks.fill_period.Given as given
 use Rattle.sota_period.proofs.blocks.fill_period.Goals as goal
+use Rattle.sota_period.proofs.blocks.fill_period.Goals.{After-min-count}
 
 -- an array of which the first places were written
 written-long : {X : Type 0} (count room : ℕ) (old new : List X) → length old ≡ room → count ≤ room → length new ≡ length (take count old) → length (new ++ drop count old) ≡ room
@@ -41,12 +43,26 @@ loop-at-init g c =
           (start-ready g.Z.Summer.state c.in_ok-summers.summers.items net ask.needs.now c.args.from made c.in_ok-summers.places c.in_ok-summers.ensures.places));
     }
 
+-- there is a place for each budget of the block
+block-long : (g : given.Over) (c : After-min-count g) → length (take c.min-count.result c.loop-at.bests) ≡ c.min-count.result
+block-long g c = length-take-le c.min-count.result c.loop-at.bests (omega (arith, c.loop-at.invariant.bests, c.min-count.ensures, c.block_of-block.ensures.within.1))
+
+pub fill_block-requires-clause-block : goal.fill_block-requires-clause-block
+fill_block-requires-clause-block g c =
+    let long = block-long g (goal.at.fill_block-requires-clause-block g c).After-min-count in
+    record {
+      asked = c.requires.ask;
+      some = omega (arith, long, c.min-count.ensures, c.block_of-block.ensures.within.0, c.loop-at-test.true);
+      limit = omega (arith, long, c.min-count.ensures, c.loop-at-test.true, c.requires.limit);
+      holds = λ t low high. c.requires.holds t (omega (arith, low, c.loop-at.invariant.low)) (omega (arith, high, long, c.min-count.ensures, c.loop-at-test.true));
+      takes = λ k d less opened. omega (arith, c.block_of-block.ensures.takes k d less opened, long, c.min-count.ensures);
+    }
+
 pub loop-at-preserved : goal.loop-at-preserved
 loop-at-preserved g c =
     let ask : Ask = c.args.ask.now in
     let few : c.min-count.result ≤ 64 = omega (arith, c.min-count.ensures, c.block_of-block.ensures.within.1) in
-    let long : length (take c.min-count.result c.loop-at.bests) ≡ c.min-count.result =
-    length-take-le c.min-count.result c.loop-at.bests (omega (arith, c.loop-at.invariant.bests, few)) in
+    let long = block-long g (goal.at.loop-at-preserved g c).After-min-count in
     record {
       low = omega (arith, c.loop-at.invariant.low);
       high = omega (arith, c.min-count.ensures, c.loop-at-test.true);

@@ -1,166 +1,89 @@
-use Rattle.std.proofs.Common.{ℕ, ◌≡◌, ◌+◌, ◌-◌, ◌≤◌, min, List, length, take, refl, sym, ◌∙◌, ap, subst, arith}
-use Rattle.std.proofs.lemmas.List.{length-take-le}
-use Rattle.sota_bank.specs.Rows.{Row, cap_at}
-use Rattle.sota_network.specs.Network.{Net}
-use Rattle.sota_period.specs.declared.ask.Ask.{Ask}
-use Rattle.sota_period.specs.Rows.{AreLonger, AreRows, asked_need, asked_nodes, row_of, row_room}
+use Rattle.std.proofs.Common.{ℕ, ◌≡◌, ◌+◌, ◌-◌, min, length, refl, ◌∙◌, ap, arith}
+use Rattle.sota_bank.specs.Rows.{cap_at}
+use Rattle.sota_period.specs.Rows.{asked_nodes}
 use Rattle.sota_period.specs.Broad.{state_at}
-use Rattle.sota_period.proofs.Filling.{nodes-held, are-longer}
+use Rattle.sota_period.proofs.Filling.{nodes-held}
 use Rattle.sota_period.proofs.Feeding.{grown-fed, later-ready, same-none}
-use Rattle.sota_period.proofs.Extending.{late, known-node, ext-read, ext-small, ext-rows, ext-reach}
+use Rattle.sota_period.proofs.Extending.{GoesOn, HaveGrown, late, cut-long, ext-read, ext-room, ext-small, have-grown}
+use Rattle.sota_period.proofs.rows.extend_row.Given as given
 use Rattle.sota_period.proofs.rows.extend_row.Goals as goal
+use Rattle.sota_period.proofs.rows.extend_row.Goals.{After-network_laws, Then-at-end, After-append_values}
+
+-- each node of the network has a row
+node-rows : (g : given.Over) (c : After-network_laws g) → c.args.network.now.nodes ≡ length c.args.rows.now
+node-rows g c =
+    let nodes : c.args.network.now.nodes ≡ asked_nodes c.args.ask.now =
+    nodes-held c.network_laws.ensures c.args.ask.now c.requires.block.asked c.args.network.now c.args.from (c.requires.block.holds c.args.from (omega arith) (omega (arith, c.requires.block.some))) in
+    omega (arith, nodes, c.requires.rows.count)
+
+-- the row goes on
+goes-on : (g : given.Over) (c : Then-at-end g) → GoesOn c.args.ask.now c.args.network.now c.args.from (length c.args.bests.now) c.args.rows.now c.args.node c.known_of-at.result c.min-end.result
+goes-on g c = record {
+  laws = c.network_laws.ensures;
+  block = c.requires.block;
+  before = c.requires.rows;
+  off = c.requires.off;
+  is_node = c.requires.node;
+  at_is = c.known_of-at.ensures.value;
+  end_is = c.min-end.ensures ∙ ap (λ (n : ℕ). min n (c.args.from + length c.args.bests.now)) (c.cap.ensures.cap ∙ ap (λ (n : ℕ). cap_at c.args.rows.now (n - 1)) c.get.ensures);
+  less = c.if-at-end.true;
+}
+
+-- and it went on
+grown : (g : given.Over) (c : After-append_values g) → GoesOn c.args.ask.now c.args.network.now c.args.from (length c.args.bests.now) c.args.rows.now c.args.node c.known_of-at.result c.min-end.result
+    → HaveGrown c.args.ask.now c.args.from (c.args.from + length c.args.bests.now) c.args.node c.args.rows.now c.append_values.new.rows
+grown g c on =
+    have-grown on (cut-long on c.args.bests.now refl) c.append_values.new.grains (c.append_values.ensures.grains ∙ cut-long on c.args.grains.now c.requires.grains) c.append_values.ensures.values c.append_values.new.rows c.append_values.ensures.rows
 
 pub known_of-at-requires : goal.known_of-at-requires
-known_of-at-requires g c =
-    let nodes : c.args.network.now.nodes ≡ asked_nodes c.args.ask.now =
-    nodes-held c.network_laws.ensures c.args.ask.now c.requires.ask c.args.network.now c.args.from (c.requires.holds c.args.from (omega arith) (omega (arith, c.requires.some))) in
-    (c.requires.node.0, omega (arith, nodes, c.requires.node.1, c.requires.rows.count))
+known_of-at-requires g c = (c.requires.node.0, omega (arith, node-rows g (goal.at.known_of-at-requires g c).After-network_laws, c.requires.node.1))
 
 pub cap-requires : goal.cap-requires
-cap-requires g c =
-    let nodes : c.args.network.now.nodes ≡ asked_nodes c.args.ask.now =
-    nodes-held c.network_laws.ensures c.args.ask.now c.requires.ask c.args.network.now c.args.from (c.requires.holds c.args.from (omega arith) (omega (arith, c.requires.some))) in
-    omega (arith, nodes, c.get.ensures, c.requires.node.0, c.requires.node.1, c.requires.rows.count)
+cap-requires g c = omega (arith, node-rows g (goal.at.cap-requires g c).After-network_laws, c.get.ensures, c.requires.node.0, c.requires.node.1)
 
 pub append_values-requires-clause-rows : goal.append_values-requires-clause-rows
-append_values-requires-clause-rows g c =
-    let nodes : c.args.network.now.nodes ≡ asked_nodes c.args.ask.now =
-    nodes-held c.network_laws.ensures c.args.ask.now c.requires.ask c.args.network.now c.args.from (c.requires.holds c.args.from (omega arith) (omega (arith, c.requires.some))) in
-    omega (arith, nodes, c.requires.rows.count)
+append_values-requires-clause-rows g c = omega (arith, node-rows g (goal.at.append_values-requires-clause-rows g c).After-network_laws)
 
 pub append_values-requires-clause-read : goal.append_values-requires-clause-read
 append_values-requires-clause-read g c =
-    let ask : Ask = c.args.ask.now in
-    let net : Net = c.args.network.now in
-    let rows : List (Row ℕ) = c.args.rows.now in
-    let ticks : ℕ = length c.args.bests.now in
-    let at : ℕ = c.known_of-at.result in
-    let end : ℕ = c.min-end.result in
-    let end-is : end ≡ min (row_room rows c.args.node) (c.args.from + ticks) =
-    c.min-end.ensures ∙ ap (λ (n : ℕ). min n (c.args.from + ticks)) (c.cap.ensures.cap ∙ ap (λ (n : ℕ). cap_at rows (n - 1)) c.get.ensures) in
-    let late-is : c.args.from ≤ at =
-    late c.network_laws.ensures ask c.requires.ask net c.args.from ticks rows c.requires.rows c.requires.takes c.requires.some c.requires.holds c.args.node c.requires.off c.requires.node at end (end - at) c.known_of-at.ensures.value end-is c.if-at-end.true refl in
-    let cut : length (take (end - at) c.args.bests.now) ≡ end - at = length-take-le (end - at) c.args.bests.now (omega (arith, end-is, late-is)) in
-    ext-read c.network_laws.ensures ask c.requires.ask net c.args.from ticks rows c.requires.rows c.requires.takes c.requires.some c.requires.holds c.args.node c.requires.off c.requires.node at end (length (take (end - at) c.args.bests.now)) c.known_of-at.ensures.value end-is c.if-at-end.true cut
+    let on = goes-on g (goal.at.append_values-requires-clause-read g c).Then-at-end in
+    ext-read on (cut-long on c.args.bests.now refl)
 
 pub append_values-requires-clause-ready : goal.append_values-requires-clause-ready
 append_values-requires-clause-ready g c =
-    let ask : Ask = c.args.ask.now in
-    let net : Net = c.args.network.now in
-    let rows : List (Row ℕ) = c.args.rows.now in
-    let ticks : ℕ = length c.args.bests.now in
-    let at : ℕ = c.known_of-at.result in
-    let end : ℕ = c.min-end.result in
-    let end-is : end ≡ min (row_room rows c.args.node) (c.args.from + ticks) =
-    c.min-end.ensures ∙ ap (λ (n : ℕ). min n (c.args.from + ticks)) (c.cap.ensures.cap ∙ ap (λ (n : ℕ). cap_at rows (n - 1)) c.get.ensures) in
-    let late-is : c.args.from ≤ at =
-    late c.network_laws.ensures ask c.requires.ask net c.args.from ticks rows c.requires.rows c.requires.takes c.requires.some c.requires.holds c.args.node c.requires.off c.requires.node at end (end - at) c.known_of-at.ensures.value end-is c.if-at-end.true refl in
-    later-ready c.args.network.now c.args.from at c.args.workspace.now c.args.workspace.now (state_at g.Z.Summer.state c.args.broad.now) late-is refl c.requires.ready
+    let on = goes-on g (goal.at.append_values-requires-clause-ready g c).Then-at-end in
+    later-ready c.args.network.now c.args.from c.known_of-at.result c.args.workspace.now c.args.workspace.now (state_at g.Z.Summer.state c.args.broad.now) (late on) refl c.requires.ready
 
 pub append_values-requires-clause-small : goal.append_values-requires-clause-small
 append_values-requires-clause-small g c =
-    let ask : Ask = c.args.ask.now in
-    let net : Net = c.args.network.now in
-    let rows : List (Row ℕ) = c.args.rows.now in
-    let ticks : ℕ = length c.args.bests.now in
-    let at : ℕ = c.known_of-at.result in
-    let end : ℕ = c.min-end.result in
-    let end-is : end ≡ min (row_room rows c.args.node) (c.args.from + ticks) =
-    c.min-end.ensures ∙ ap (λ (n : ℕ). min n (c.args.from + ticks)) (c.cap.ensures.cap ∙ ap (λ (n : ℕ). cap_at rows (n - 1)) c.get.ensures) in
-    let late-is : c.args.from ≤ at =
-    late c.network_laws.ensures ask c.requires.ask net c.args.from ticks rows c.requires.rows c.requires.takes c.requires.some c.requires.holds c.args.node c.requires.off c.requires.node at end (end - at) c.known_of-at.ensures.value end-is c.if-at-end.true refl in
-    let cut : length (take (end - at) c.args.bests.now) ≡ end - at = length-take-le (end - at) c.args.bests.now (omega (arith, end-is, late-is)) in
-    ext-small c.network_laws.ensures ask c.requires.ask net c.args.from ticks rows c.requires.rows c.requires.takes c.requires.some c.requires.holds c.args.node c.requires.off c.requires.node at end (length (take (end - at) c.args.bests.now)) c.known_of-at.ensures.value end-is c.if-at-end.true cut
+    let on = goes-on g (goal.at.append_values-requires-clause-small g c).Then-at-end in
+    ext-small on (cut-long on c.args.bests.now refl)
 
 pub append_values-requires-clause-room : goal.append_values-requires-clause-room
 append_values-requires-clause-room g c =
-    let ask : Ask = c.args.ask.now in
-    let net : Net = c.args.network.now in
-    let rows : List (Row ℕ) = c.args.rows.now in
-    let ticks : ℕ = length c.args.bests.now in
-    let at : ℕ = c.known_of-at.result in
-    let end : ℕ = c.min-end.result in
-    let end-is : end ≡ min (row_room rows c.args.node) (c.args.from + ticks) =
-    c.min-end.ensures ∙ ap (λ (n : ℕ). min n (c.args.from + ticks)) (c.cap.ensures.cap ∙ ap (λ (n : ℕ). cap_at rows (n - 1)) c.get.ensures) in
-    let late-is : c.args.from ≤ at =
-    late c.network_laws.ensures ask c.requires.ask net c.args.from ticks rows c.requires.rows c.requires.takes c.requires.some c.requires.holds c.args.node c.requires.off c.requires.node at end (end - at) c.known_of-at.ensures.value end-is c.if-at-end.true refl in
-    let cut : length (take (end - at) c.args.bests.now) ≡ end - at = length-take-le (end - at) c.args.bests.now (omega (arith, end-is, late-is)) in
-    omega (arith, cut, end-is, c.if-at-end.true)
+    let on = goes-on g (goal.at.append_values-requires-clause-room g c).Then-at-end in
+    ext-room on (cut-long on c.args.bests.now refl)
 
 pub returns-then-at-end-clause-rows : goal.returns-then-at-end-clause-rows
 returns-then-at-end-clause-rows g c =
-    let ask : Ask = c.args.ask.now in
-    let net : Net = c.args.network.now in
-    let rows : List (Row ℕ) = c.args.rows.now in
-    let ticks : ℕ = length c.args.bests.now in
-    let at : ℕ = c.known_of-at.result in
-    let end : ℕ = c.min-end.result in
-    let end-is : end ≡ min (row_room rows c.args.node) (c.args.from + ticks) =
-    c.min-end.ensures ∙ ap (λ (n : ℕ). min n (c.args.from + ticks)) (c.cap.ensures.cap ∙ ap (λ (n : ℕ). cap_at rows (n - 1)) c.get.ensures) in
-    let late-is : c.args.from ≤ at =
-    late c.network_laws.ensures ask c.requires.ask net c.args.from ticks rows c.requires.rows c.requires.takes c.requires.some c.requires.holds c.args.node c.requires.off c.requires.node at end (end - at) c.known_of-at.ensures.value end-is c.if-at-end.true refl in
-    let cut : length (take (end - at) c.args.bests.now) ≡ end - at = length-take-le (end - at) c.args.bests.now (omega (arith, end-is, late-is)) in
-    let long : length c.append_values.new.grains ≡ length (take (end - at) c.args.bests.now) =
-    c.append_values.ensures.grains ∙ length-take-le (end - at) c.args.grains.now (omega (arith, end-is, late-is, c.requires.grains)) ∙ sym cut in
-    let inside : c.args.node ≤ length rows = known-node c.network_laws.ensures ask c.requires.ask net c.args.from ticks rows c.requires.rows c.requires.takes c.requires.some c.requires.holds c.args.node c.requires.off c.requires.node at end (length (take (end - at) c.args.bests.now)) c.known_of-at.ensures.value end-is c.if-at-end.true cut in
-    subst (λ (R : List (Row ℕ)). AreRows ask c.args.from R) (sym c.append_values.ensures.rows)
-    (ext-rows c.network_laws.ensures ask c.requires.ask net c.args.from ticks rows c.requires.rows c.requires.takes c.requires.some c.requires.holds c.args.node c.requires.off c.requires.node at end (length (take (end - at) c.args.bests.now)) c.known_of-at.ensures.value end-is c.if-at-end.true cut c.append_values.new.grains long c.append_values.ensures.values)
+    let at = goal.at.returns-then-at-end-clause-rows g c in
+    (grown g at.After-append_values (goes-on g at.Then-at-end)).rows
 
 pub returns-then-at-end-clause-longer : goal.returns-then-at-end-clause-longer
 returns-then-at-end-clause-longer g c =
-    let ask : Ask = c.args.ask.now in
-    let net : Net = c.args.network.now in
-    let rows : List (Row ℕ) = c.args.rows.now in
-    let ticks : ℕ = length c.args.bests.now in
-    let at : ℕ = c.known_of-at.result in
-    let end : ℕ = c.min-end.result in
-    let end-is : end ≡ min (row_room rows c.args.node) (c.args.from + ticks) =
-    c.min-end.ensures ∙ ap (λ (n : ℕ). min n (c.args.from + ticks)) (c.cap.ensures.cap ∙ ap (λ (n : ℕ). cap_at rows (n - 1)) c.get.ensures) in
-    let late-is : c.args.from ≤ at =
-    late c.network_laws.ensures ask c.requires.ask net c.args.from ticks rows c.requires.rows c.requires.takes c.requires.some c.requires.holds c.args.node c.requires.off c.requires.node at end (end - at) c.known_of-at.ensures.value end-is c.if-at-end.true refl in
-    let cut : length (take (end - at) c.args.bests.now) ≡ end - at = length-take-le (end - at) c.args.bests.now (omega (arith, end-is, late-is)) in
-    let long : length c.append_values.new.grains ≡ length (take (end - at) c.args.bests.now) =
-    c.append_values.ensures.grains ∙ length-take-le (end - at) c.args.grains.now (omega (arith, end-is, late-is, c.requires.grains)) ∙ sym cut in
-    let inside : c.args.node ≤ length rows = known-node c.network_laws.ensures ask c.requires.ask net c.args.from ticks rows c.requires.rows c.requires.takes c.requires.some c.requires.holds c.args.node c.requires.off c.requires.node at end (length (take (end - at) c.args.bests.now)) c.known_of-at.ensures.value end-is c.if-at-end.true cut in
-    subst (λ (R : List (Row ℕ)). AreLonger rows R) (sym c.append_values.ensures.rows) (are-longer rows c.args.node c.requires.node.0 inside c.append_values.new.grains)
+    let at = goal.at.returns-then-at-end-clause-longer g c in
+    (grown g at.After-append_values (goes-on g at.Then-at-end)).longer
 
 pub returns-then-at-end-clause-reach : goal.returns-then-at-end-clause-reach
 returns-then-at-end-clause-reach g c =
-    let ask : Ask = c.args.ask.now in
-    let net : Net = c.args.network.now in
-    let rows : List (Row ℕ) = c.args.rows.now in
-    let ticks : ℕ = length c.args.bests.now in
-    let at : ℕ = c.known_of-at.result in
-    let end : ℕ = c.min-end.result in
-    let end-is : end ≡ min (row_room rows c.args.node) (c.args.from + ticks) =
-    c.min-end.ensures ∙ ap (λ (n : ℕ). min n (c.args.from + ticks)) (c.cap.ensures.cap ∙ ap (λ (n : ℕ). cap_at rows (n - 1)) c.get.ensures) in
-    let late-is : c.args.from ≤ at =
-    late c.network_laws.ensures ask c.requires.ask net c.args.from ticks rows c.requires.rows c.requires.takes c.requires.some c.requires.holds c.args.node c.requires.off c.requires.node at end (end - at) c.known_of-at.ensures.value end-is c.if-at-end.true refl in
-    let cut : length (take (end - at) c.args.bests.now) ≡ end - at = length-take-le (end - at) c.args.bests.now (omega (arith, end-is, late-is)) in
-    let long : length c.append_values.new.grains ≡ length (take (end - at) c.args.bests.now) =
-    c.append_values.ensures.grains ∙ length-take-le (end - at) c.args.grains.now (omega (arith, end-is, late-is, c.requires.grains)) ∙ sym cut in
-    let inside : c.args.node ≤ length rows = known-node c.network_laws.ensures ask c.requires.ask net c.args.from ticks rows c.requires.rows c.requires.takes c.requires.some c.requires.holds c.args.node c.requires.off c.requires.node at end (length (take (end - at) c.args.bests.now)) c.known_of-at.ensures.value end-is c.if-at-end.true cut in
-    subst (λ (R : List (Row ℕ)). min (c.args.from + ticks) (asked_need ask c.args.node) ≤ length (row_of R c.args.node)) (sym c.append_values.ensures.rows)
-    (ext-reach c.network_laws.ensures ask c.requires.ask net c.args.from ticks rows c.requires.rows c.requires.takes c.requires.some c.requires.holds c.args.node c.requires.off c.requires.node at end (length (take (end - at) c.args.bests.now)) c.known_of-at.ensures.value end-is c.if-at-end.true cut c.append_values.new.grains long c.append_values.ensures.values)
+    let at = goal.at.returns-then-at-end-clause-reach g c in
+    (grown g at.After-append_values (goes-on g at.Then-at-end)).reach
 
 pub returns-then-at-end-clause-fed : goal.returns-then-at-end-clause-fed
 returns-then-at-end-clause-fed g c =
-    let ask : Ask = c.args.ask.now in
-    let net : Net = c.args.network.now in
-    let rows : List (Row ℕ) = c.args.rows.now in
-    let ticks : ℕ = length c.args.bests.now in
-    let at : ℕ = c.known_of-at.result in
-    let end : ℕ = c.min-end.result in
-    let end-is : end ≡ min (row_room rows c.args.node) (c.args.from + ticks) =
-    c.min-end.ensures ∙ ap (λ (n : ℕ). min n (c.args.from + ticks)) (c.cap.ensures.cap ∙ ap (λ (n : ℕ). cap_at rows (n - 1)) c.get.ensures) in
-    let late-is : c.args.from ≤ at =
-    late c.network_laws.ensures ask c.requires.ask net c.args.from ticks rows c.requires.rows c.requires.takes c.requires.some c.requires.holds c.args.node c.requires.off c.requires.node at end (end - at) c.known_of-at.ensures.value end-is c.if-at-end.true refl in
-    let cut : length (take (end - at) c.args.bests.now) ≡ end - at = length-take-le (end - at) c.args.bests.now (omega (arith, end-is, late-is)) in
-    let long : length c.append_values.new.grains ≡ length (take (end - at) c.args.bests.now) =
-    c.append_values.ensures.grains ∙ length-take-le (end - at) c.args.grains.now (omega (arith, end-is, late-is, c.requires.grains)) ∙ sym cut in
-    let inside : c.args.node ≤ length rows = known-node c.network_laws.ensures ask c.requires.ask net c.args.from ticks rows c.requires.rows c.requires.takes c.requires.some c.requires.holds c.args.node c.requires.off c.requires.node at end (length (take (end - at) c.args.bests.now)) c.known_of-at.ensures.value end-is c.if-at-end.true cut in
-    grown-fed rows c.append_values.new.rows net (state_at g.Z.Summer.state c.append_values.new.broad)
-    (subst (λ (R : List (Row ℕ)). AreLonger rows R) (sym c.append_values.ensures.rows) (are-longer rows c.args.node c.requires.node.0 inside c.append_values.new.grains)) c.append_values.ensures.fed
+    let at = goal.at.returns-then-at-end-clause-fed g c in
+    let longer = (grown g at.After-append_values (goes-on g at.Then-at-end)).longer in
+    grown-fed c.args.rows.now c.append_values.new.rows c.args.network.now (state_at g.Z.Summer.state c.append_values.new.broad) longer c.append_values.ensures.fed
 
 pub returns-else-at-end-clause-same : goal.returns-else-at-end-clause-same
 returns-else-at-end-clause-same g c = same-none (state_at g.Z.Summer.state c.args.broad.now)
