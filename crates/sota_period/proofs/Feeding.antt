@@ -7,7 +7,7 @@ use Rattle.std.specs.List.{All}
 use Rattle.std.specs.declared.alloc.Global.{Global}
 use Rattle.std.proofs.Math.ListN.{set}
 use Rattle.std.proofs.Math.ListN as maps
-use Rattle.std.proofs.lemmas.List.{length-append, get_or_append_left, get_or-append_right, get_or-set_same, get_or-set_other, get_or_default, get_or_past, get_or-map, map-append, map_more}
+use Rattle.std.proofs.lemmas.List.{length-append, get_or_append_left, get_or-append_right, get_or-set_same, get_or-set_other, get_or_default, get_or_past, get_or-map, length-map, map-append, map_more}
 use Rattle.std.proofs.lemmas.List.FromFn.{length-map-range_with_len}
 use Rattle.sota_bank.specs.Rows.{Row}
 use Rattle.sota_online.specs.Summer.{SummerState, span, kernel_of, fed_more}
@@ -18,7 +18,7 @@ use Rattle.sota_hist.specs.Time.{is_closed, least_tick, mass_at, within}
 use Rattle.sota_network.specs.Region.{NARROW}
 use Rattle.sota_period.specs.Needs.{need_at}
 use Rattle.sota_period.specs.Rows.{row_of, row_value, row_room, AreLonger}
-use Rattle.sota_period.specs.Broad.{IsFedOn, IsFedArc, AllFed, IsReady, AllReady, AreSame, IsWorkFor, SummerList, state_of, state_at, unfed, first_state, is_summed, kernel_places}
+use Rattle.sota_period.specs.Broad.{IsFedOn, IsFedArc, AllFed, IsReady, AllReady, AreSame, AreSummers, IsWorkFor, SummerList, state_of, state_at, unfed, first_state, is_summed, kernel_places}
 
 pub fed-next : (old new : SummerState) (v : ℕ) (time : List (ℕ × ℕ)) (f : ℕ → ℕ) → IsFed old time 0 f → 1 ≤ old.room → new ≡ fed_more v old → v ≡ f (length old.values) → IsFed new time 0 f
 fed-next old new v time f fed room at is =
@@ -89,15 +89,6 @@ same-summer state = record { kernel = refl; start = refl; total = refl }
 pub same-none : (at : ℕ → Option SummerState) → AreSame at at
 same-none at e state low is = (state, is, same-summer state)
 
-pub same-then : (before now after : ℕ → Option SummerState) → AreSame before now → AreSame now after → AreSame before after
-same-then before now after first second e state low is =
-    let late = second e state low is in
-    let soon = first e late.0 low late.1 in (
-      soon.0,
-      soon.1,
-      record { kernel = late.2.kernel ∙ soon.2.kernel; start = late.2.start ∙ soon.2.start; total = late.2.total ∙ soon.2.total },
-    )
-
 pub same-ready : (net : Net) (from places : ℕ) (before after : ℕ → Option SummerState) → AreSame before after → AllReady net from places before → AllReady net from places after
 same-ready net from places before after same ready zero arc state number is = absurd (cc)
 same-ready net from places before after same ready (suc k) arc state number is =
@@ -108,10 +99,27 @@ same-ready net from places before after same ready (suc k) arc state number is =
       work = omega (arith, ap (λ (xs : List ℕ). length xs) was.2.kernel, old.work);
     }
 
-pub later-ready : (net : Net) (from more places work : ℕ) (at : ℕ → Option SummerState) → from ≤ more → work ≡ places → AllReady net from places at → AllReady net more work at
-later-ready net from more places work at late same ready e arc state number is =
-    let old : IsReady arc from places state = ready e arc state number is in
-    record { start = omega (arith, late, old.start); work = omega (arith, same, old.work) }
+-- summers that were fed on
+pub fed-summers : {Z : Type 0} (state : Z → SummerState) (rows : List (Row ℕ)) (net : Net) (places work : ℕ) (old new : SummerList Z) → length new ≡ length old → AllFed rows net (state_at state new)
+    → AreSame (state_at state old) (state_at state new) → work ≡ places → (t : ℕ) → AreSummers state rows net t places old → AreSummers state rows net t work new
+fed-summers {Z} state rows net places work old new long fed same lent t are =
+    subst (λ (n : ℕ). AreSummers state rows net t n new) (sym lent)
+    (record {
+      count = long ∙ are.count;
+      fed = fed;
+      ready = same-ready net t places (state_at state old) (state_at state new) same are.ready;
+    })
+
+-- at later budgets
+pub later-summers : {Z : Type 0} {state : Z → SummerState} {rows : List (Row ℕ)} {net : Net} {from places : ℕ} {broad : SummerList Z} (more : ℕ) → from ≤ more → AreSummers state rows net from places broad
+    → AreSummers state rows net more places broad
+later-summers {Z} {state} {rows} {net} {from} {places} {broad} more late are = record {
+  count = are.count;
+  fed = are.fed;
+  ready = λ e arc s number is.
+      let old : IsReady arc from places s = are.ready e arc s number is in
+      record { start = omega (arith, late, old.start); work = old.work };
+}
 
 -- ---- what the summers hold
 fed-on : (rows : List (Row ℕ)) (arc : Arc) (known : ℕ) (old new : SummerState) → known ≡ length (row_of rows arc.head) → IsFedArc rows arc old
@@ -180,7 +188,7 @@ module _ {Z : Type 0} (state : Z → SummerState) (rows : List (Row ℕ)) (net :
   fed-there was = record { fed = set-fed was; same = set-same; reach = set-reach }
 
 -- rows that go on
-pub grown-fed : (rows new : List (Row ℕ)) (net : Net) (at : ℕ → Option SummerState) → AreLonger rows new → AllFed rows net at → AllFed new net at
+grown-fed : (rows new : List (Row ℕ)) (net : Net) (at : ℕ → Option SummerState) → AreLonger rows new → AllFed rows net at → AllFed new net at
 grown-fed rows new net at longer all e arc state number is =
     let was : IsFedArc rows arc state = all e arc state number is in
     record {
@@ -193,6 +201,10 @@ grown-fed rows new net at longer all e arc state number is =
       count = omega (arith, was.count, longer.long arc.head);
       total = was.total ∙ sym (longer.room arc.head);
     }
+
+pub grown-summers : {Z : Type 0} {state : Z → SummerState} {rows : List (Row ℕ)} {net : Net} {from places : ℕ} {broad : SummerList Z} (new : List (Row ℕ)) → AreLonger rows new → AreSummers state rows net from places broad
+    → AreSummers state new net from places broad
+grown-summers {Z} {state} {rows} {net} {from} {places} {broad} new longer are = record { count = are.count; fed = grown-fed rows new net (state_at state broad) longer are.fed; ready = are.ready }
 
 -- ---- summers that were fed nothing yet
 broad-open : (late : ℕ) (time : List (ℕ × ℕ)) → NARROW < length (within late time) → is_closed time ≡ false
@@ -249,16 +261,24 @@ module _ {Z : Type 0} (state : Z → SummerState) (items : SummerList Z) (net : 
       let found : get_or (map (state_of state) items) k None ≡ state_at state items (suc k) = maps.get_or-map (state_of state) items k None ∙ ap (λ (n : ℕ). state_of state (get_or items n None)) place in
       sym made ∙ ap (λ (xs : List (Option SummerState)). get_or xs k None) (sym same) ∙ found ∙ is
 
-  pub start-fed : (rows : List (Row ℕ)) → ((e : ℕ) (arc : Arc) → arc_at net e ≡ Some arc → row_room rows arc.head ≡ need_at needs arc.head) → AllFed rows net (state_at state items)
+  start-fed : (rows : List (Row ℕ)) → ((e : ℕ) (arc : Arc) → arc_at net e ≡ Some arc → row_room rows arc.head ≡ need_at needs arc.head) → AllFed rows net (state_at state items)
   start-fed rows room zero arc s number is = absurd (cc)
   start-fed rows room (suc k) arc s number is = first-fed rows needs from arc s (room (suc k) arc number) (first-at k arc s number is)
 
-  pub start-ready : (places : ℕ) → All (λ arc. IsWorkFor places (first_state needs from arc)) net.arcs → AllReady net from places (state_at state items)
+  start-ready : (places : ℕ) → All (λ arc. IsWorkFor places (first_state needs from arc)) net.arcs → AllReady net from places (state_at state items)
   start-ready places room zero arc s number is = absurd (cc)
   start-ready places room (suc k) arc s number is =
       let inside : k < length net.arcs = slice_get_within net.arcs k arc number in
       let there : get_or net.arcs k arc ≡ arc = get_or_from_slice_get net.arcs k arc arc number in
       first-ready needs from places arc s (subst (λ (a : Arc). IsWorkFor places (first_state needs from a)) there (room k arc inside)) (first-at k arc s number is)
+
+  pub start-summers : (places : ℕ) → All (λ arc. IsWorkFor places (first_state needs from arc)) net.arcs → (rows : List (Row ℕ)) → ((e : ℕ) (arc : Arc) → arc_at net e ≡ Some arc → row_room rows arc.head ≡ need_at needs arc.head)
+      → AreSummers state rows net from places items
+  start-summers places room rows rooms = record {
+    count = sym (length-map items (state_of state)) ∙ ap length same ∙ length-map net.arcs (first_state needs from);
+    fed = start-fed rows rooms;
+    ready = start-ready places room;
+  }
 
 -- a kernel has no more places than there are values
 kernel-few : (width : ℕ) (time : List (ℕ × ℕ)) → length (kernel_of width time) ≤ width

@@ -98,3 +98,11 @@ IsRead rows to arc = is_closed arc.time ≡ false
 abbrev pub AllRead : List (Row ℕ) → ℕ → Net → ℕ → Type 0
 AllRead rows to net i = (e : ℕ) (arc : Arc) → arc_at net e ≡ Some arc → arc.tail ≡ i
     → IsRead rows to arc
+
+-- summers, one for each arc that has one, which were fed from the rows and can make the sums at the
+-- budgets from one on in this room
+pub record AreSummers {Z : Type 0} (state : Z → SummerState) (rows : List (Row ℕ)) (net : Net)
+    (from places : ℕ) (broad : SummerList Z) : Type 0 where
+  pub count : length broad ≡ length net.arcs
+  pub fed : AllFed rows net (state_at state broad)
+  pub ready : AllReady net from places (state_at state broad)

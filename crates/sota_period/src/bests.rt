@@ -6,7 +6,7 @@ ghost use Rattle.sota_network.specs.Network.{IsNode, arc_at};
 ghost use Rattle.sota_network.specs.declared.network.Arc.{Arc};
 ghost use Rattle.sota_network.specs.Grid.{plain_sum, best_sum, choice_of};
 ghost use Rattle.sota_period.specs.Rows.{row_value};
-ghost use Rattle.sota_period.specs.Broad.{AllFed, AllRead, AllReady, AreSame, IsRead, state_at};
+ghost use Rattle.sota_period.specs.Broad.{AllRead, AreSummers, IsRead};
 
 use crate::broad::{feed_arc, summer_of};
 use crate::table::row_of;
@@ -46,21 +46,18 @@ fn sums_of<Z: Summer, M: Ledger>(
     products: &mut Steps<M>,
 )
     requires number { (1 ≤ number) × (number ≤ length network.now.arcs) }
-    requires broad { length broad.old ≡ length network.now.arcs }
     requires rows { network.now.nodes ≤ length rows.now }
     requires limit { from + length into.old ≤ BUDGET_LIMIT + 1 }
-    requires fed { AllFed rows.now network.now (state_at Z.state broad.old) }
-    requires ready { AllReady network.now from workspace.old (state_at Z.state broad.old) }
+    requires summers { AreSummers Z.state rows.now network.now from workspace.old broad.old }
     requires read { (arc : Arc) → arc_at network.now number ≡ Some arc
         → IsRead rows.now (from + length into.old) arc }
     ensures sums { (arc : Arc) → arc_at network.now number ≡ Some arc → (x : ℕ)
         → x < length into.old → slice_index into.new x
         ≡ plain_sum arc (row_value rows.now) (from + x) }
     ensures room { length into.new ≡ length into.old }
-    ensures fed { AllFed rows.now network.now (state_at Z.state broad.new) }
-    ensures same { AreSame (state_at Z.state broad.old) (state_at Z.state broad.new) }
-    ensures broad { length broad.new ≡ length broad.old }
-    ensures work { workspace.new ≡ workspace.old }
+    ensures summers { (t : ℕ)
+        → AreSummers Z.state rows.now network.now t workspace.old broad.old
+        → AreSummers Z.state rows.now network.now t workspace.new broad.new }
 {
     feed_arc(network, number, rows, broad, workspace, products);
     let arc = network.numbered(number);
@@ -102,20 +99,17 @@ pub(crate) fn find_bests<Z: Summer, M: Ledger>(
 )
     requires node { IsNode network.now node }
     requires rows { network.now.nodes ≤ length rows.now }
-    requires broad { length broad.old ≡ length network.now.arcs }
     requires limit { from + length bests.old ≤ BUDGET_LIMIT + 1 }
     requires sums { length sums.old ≡ length bests.old }
-    requires fed { AllFed rows.now network.now (state_at Z.state broad.old) }
-    requires ready { AllReady network.now from workspace.old (state_at Z.state broad.old) }
+    requires summers { AreSummers Z.state rows.now network.now from workspace.old broad.old }
     requires read { AllRead rows.now (from + length bests.old) network.now node }
     ensures bests { (x : ℕ) → x < length bests.old → slice_index bests.new x
         ≡ best_sum network.now (row_value rows.now) node (from + x) }
     ensures room { length bests.new ≡ length bests.old }
     ensures sums { length sums.new ≡ length sums.old }
-    ensures fed { AllFed rows.now network.now (state_at Z.state broad.new) }
-    ensures same { AreSame (state_at Z.state broad.old) (state_at Z.state broad.new) }
-    ensures broad { length broad.new ≡ length broad.old }
-    ensures work { workspace.new ≡ workspace.old }
+    ensures summers { (t : ℕ)
+        → AreSummers Z.state rows.now network.now t workspace.old broad.old
+        → AreSummers Z.state rows.now network.now t workspace.new broad.new }
 {
     arcs_one_by_one();
     bests.fill(0);

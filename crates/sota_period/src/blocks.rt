@@ -2,7 +2,7 @@
 ghost use Rattle.std.specs.Prelude.{◌≡◌, ◌+◌, ◌<◌, ◌≤◌, false, length, OnOk};
 ghost use Rattle.sota_hist.specs.Time.{is_closed, least_tick};
 ghost use Rattle.sota_period.specs.Rows.{AreRows, Holds, IsAsk, IsBlock, TakesAtLeast};
-ghost use Rattle.sota_period.specs.Broad.{AllFed, AllReady, AreSame, state_at};
+ghost use Rattle.sota_period.specs.Broad.{AreSummers};
 
 use crate::ask::Ask;
 use crate::broad::make_summers;
@@ -60,14 +60,9 @@ fn fill_block<Z: Summer, M: Ledger>(
     requires sums { length sums.old ≡ length bests.old }
     requires grains { length grains.old ≡ length bests.old }
     requires rows { AreRows ask.now from rows.old }
-    requires broad { length broad.old ≡ length network.now.arcs }
-    requires fed { AllFed rows.old network.now (state_at Z.state broad.old) }
-    requires ready { AllReady network.now from workspace.old (state_at Z.state broad.old) }
+    requires summers { AreSummers Z.state rows.old network.now from workspace.old broad.old }
     ensures rows { AreRows ask.now (from + length bests.old) rows.new }
-    ensures fed { AllFed rows.new network.now (state_at Z.state broad.new) }
-    ensures same { AreSame (state_at Z.state broad.old) (state_at Z.state broad.new) }
-    ensures broad { length broad.new ≡ length broad.old }
-    ensures work { workspace.new ≡ workspace.old }
+    ensures summers { AreSummers Z.state rows.new network.now from workspace.new broad.new }
     ensures sums { length sums.new ≡ length sums.old }
     ensures bests { length bests.new ≡ length bests.old }
     ensures grains { length grains.new ≡ length grains.old }

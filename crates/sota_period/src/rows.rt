@@ -9,7 +9,7 @@ ghost use Rattle.sota_network.specs.Grid.{best_sum};
 ghost use Rattle.sota_sums.specs.Bounds.{rounded_in};
 ghost use Rattle.sota_period.specs.Rows.{AreLonger, AreRows, IsBlock};
 ghost use Rattle.sota_period.specs.Rows.{asked_need, row_of, row_room, row_value};
-ghost use Rattle.sota_period.specs.Broad.{AllFed, AllRead, AllReady, AreSame, state_at};
+ghost use Rattle.sota_period.specs.Broad.{AllRead, AreSummers};
 
 use crate::ask::Ask;
 use crate::bests::find_bests;
@@ -39,14 +39,12 @@ fn append_values<Z: Summer, M: Ledger>(
 )
     requires node { IsNode network.now node }
     requires rows { network.now.nodes ≤ length rows.old }
-    requires broad { length broad.old ≡ length network.now.arcs }
     requires limit { at + length bests.old ≤ BUDGET_LIMIT + 1 }
     requires at { at ≡ length (row_of rows.old node) }
     requires room { at + length bests.old ≤ row_room rows.old node }
     requires sums { length sums.old ≡ length bests.old }
     requires grains { length grains.old ≡ length bests.old }
-    requires fed { AllFed rows.old network.now (state_at Z.state broad.old) }
-    requires ready { AllReady network.now at workspace.old (state_at Z.state broad.old) }
+    requires summers { AreSummers Z.state rows.old network.now at workspace.old broad.old }
     requires read { AllRead rows.old (at + length bests.old) network.now node }
     requires small { (x : ℕ) → x < length bests.old
         → best_sum network.now (row_value rows.old) node (at + x) ≤ network.now.scale * ONE }
@@ -55,10 +53,9 @@ fn append_values<Z: Summer, M: Ledger>(
     ensures values { (x : ℕ) → x < length bests.old → slice_index grains.new x
         ≡ rounded_in bound network.now.scale
         (best_sum network.now (row_value rows.old) node (at + x)) }
-    ensures fed { AllFed rows.old network.now (state_at Z.state broad.new) }
-    ensures same { AreSame (state_at Z.state broad.old) (state_at Z.state broad.new) }
-    ensures broad { length broad.new ≡ length broad.old }
-    ensures work { workspace.new ≡ workspace.old }
+    ensures summers { (t : ℕ)
+        → AreSummers Z.state rows.old network.now t workspace.old broad.old
+        → AreSummers Z.state rows.old network.now t workspace.new broad.new }
     ensures sums { length sums.new ≡ length sums.old }
     ensures bests { length bests.new ≡ length bests.old }
     ensures grains { length grains.new ≡ length grains.old }
@@ -92,17 +89,12 @@ pub(crate) fn extend_row<Z: Summer, M: Ledger>(
     requires sums { length sums.old ≡ length bests.old }
     requires grains { length grains.old ≡ length bests.old }
     requires rows { AreRows ask.now from rows.old }
-    requires broad { length broad.old ≡ length network.now.arcs }
-    requires fed { AllFed rows.old network.now (state_at Z.state broad.old) }
-    requires ready { AllReady network.now from workspace.old (state_at Z.state broad.old) }
+    requires summers { AreSummers Z.state rows.old network.now from workspace.old broad.old }
     ensures rows { AreRows ask.now from rows.new }
     ensures longer { AreLonger rows.old rows.new }
     ensures reach { min (from + length bests.old) (asked_need ask.now node)
         ≤ length (row_of rows.new node) }
-    ensures fed { AllFed rows.new network.now (state_at Z.state broad.new) }
-    ensures same { AreSame (state_at Z.state broad.old) (state_at Z.state broad.new) }
-    ensures broad { length broad.new ≡ length broad.old }
-    ensures work { workspace.new ≡ workspace.old }
+    ensures summers { AreSummers Z.state rows.new network.now from workspace.new broad.new }
     ensures sums { length sums.new ≡ length sums.old }
     ensures bests { length bests.new ≡ length bests.old }
     ensures grains { length grains.new ≡ length grains.old }

@@ -1,12 +1,10 @@
-use Rattle.std.proofs.Common.{ℕ, ◌≡◌, ◌+◌, ◌<◌, List, Option, Some, length, slice_index, sym, ◌∙◌, ap, subst, arith}
+use Rattle.std.proofs.Common.{ℕ, ◌≡◌, ◌+◌, ◌<◌, List, Some, length, slice_index, sym, ◌∙◌, ap, subst, arith}
 use Rattle.sota_network.specs.Network.{Net}
 use Rattle.sota_network.specs.Grid.{plain_sum}
 use Rattle.sota_network.specs.declared.network.Arc.{Arc}
 use Rattle.sota_period.specs.Rows.{row_value}
 use Rattle.sota_network.specs.Among.{numbered_worth}
-use Rattle.sota_online.specs.Summer.{SummerState}
-use Rattle.sota_period.specs.Broad.{IsRead, state_at}
-use Rattle.sota_period.proofs.Feeding.{same-then, same-ready, later-ready}
+use Rattle.sota_period.specs.Broad.{IsRead}
 use Rattle.sota_period.proofs.bests.find_bests.Goals as goal
 
 pub sums_of-requires-clause-read : goal.sums_of-requires-clause-read
@@ -17,11 +15,8 @@ sums_of-requires-clause-read g c = λ arc at.
     let tail : arc.tail ≡ c.args.node = ap (λ (a : Arc). a.tail) (sym same) ∙ out.2 in
     subst (λ (n : ℕ). IsRead c.args.rows.now (c.args.from + n) arc) (sym (c.loop-number.invariant.sums ∙ c.requires.sums)) (c.requires.read c.number-item.result arc at tail)
 
-pub sums_of-requires-clause-ready : goal.sums_of-requires-clause-ready
-sums_of-requires-clause-ready g c =
-    let now : ℕ → Option SummerState = state_at g.Z.Summer.state c.loop-number.broad in
-    later-ready c.args.network.now c.args.from c.args.from c.args.workspace.now c.loop-number.workspace now (omega arith) c.loop-number.invariant.work
-    (same-ready c.args.network.now c.args.from c.args.workspace.now (state_at g.Z.Summer.state c.args.broad.now) now c.loop-number.invariant.same c.requires.ready)
+pub sums_of-requires-clause-summers : goal.sums_of-requires-clause-summers
+sums_of-requires-clause-summers g c = c.loop-number.invariant.summers c.args.from c.requires.summers
 
 pub loop-number-preserved : goal.loop-number-preserved
 loop-number-preserved g c =
@@ -35,10 +30,7 @@ loop-number-preserved g c =
     record {
       sums = c.sums_of.ensures.room ∙ c.loop-number.invariant.sums;
       room = c.raise.ensures.room ∙ c.loop-number.invariant.room;
-      broad = c.sums_of.ensures.broad ∙ c.loop-number.invariant.broad;
-      fed = c.sums_of.ensures.fed;
-      same = same-then (state_at g.Z.Summer.state c.args.broad.now) (state_at g.Z.Summer.state c.loop-number.broad) (state_at g.Z.Summer.state c.sums_of.new.broad) c.loop-number.invariant.same c.sums_of.ensures.same;
-      work = c.sums_of.ensures.work ∙ c.loop-number.invariant.work;
+      summers = λ t are. c.sums_of.ensures.summers t (c.loop-number.invariant.summers t are);
       bests = λ x h.
           let inside : x < length c.loop-number.sums = omega (arith, h, c.loop-number.invariant.sums, c.requires.sums) in
           let below : x < length c.loop-number.bests = omega (arith, h, c.loop-number.invariant.room) in

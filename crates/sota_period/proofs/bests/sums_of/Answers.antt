@@ -3,12 +3,14 @@ use Rattle.sota_network.specs.Grid.{plain_sum}
 use Rattle.sota_network.specs.declared.network.Arc.{Arc}
 use Rattle.sota_period.specs.Rows.{row_of, row_value}
 use Rattle.sota_online.specs.Summer.{SummerState}
-use Rattle.sota_period.specs.Broad.{IsFedArc, IsReady, state_at}
-use Rattle.sota_period.proofs.Feeding.{same-ready}
+use Rattle.sota_period.specs.Broad.{AreSummers, IsFedArc, IsReady, state_at}
+use Rattle.sota_period.proofs.Feeding.{fed-summers, same-ready}
+use Rattle.sota_period.proofs.bests.sums_of.Given as given
 use Rattle.sota_period.proofs.bests.sums_of.Goals as goal
+use Rattle.sota_period.proofs.bests.sums_of.Goals.{After-feed_arc}
 
 pub feed_arc-requires-clause-work : goal.feed_arc-requires-clause-work
-feed_arc-requires-clause-work g c = λ arc state at is. (c.requires.ready c.args.number arc state at is).work
+feed_arc-requires-clause-work g c = λ arc state at is. (c.requires.summers.ready c.args.number arc state at is).work
 
 pub least-requires : goal.least-requires
 least-requires g c = (c.feed_arc.ensures.fed c.args.number c.numbered-arc.result.now (g.Z.Summer.state c.in-Some.summer.now) c.numbered-arc.ensures.value (sym c.in-Some.ensures)).open_arc
@@ -25,7 +27,7 @@ broad_sums-requires-clause-start g c =
     let arc : Arc = c.numbered-arc.result.now in
     let now : ℕ → Option SummerState = state_at g.Z.Summer.state c.feed_arc.new.broad in
     let ready : IsReady arc c.args.from c.args.workspace.now (g.Z.Summer.state c.in-Some.summer.now) =
-    same-ready c.args.network.now c.args.from c.args.workspace.now (state_at g.Z.Summer.state c.args.broad.now) now c.feed_arc.ensures.same c.requires.ready
+    same-ready c.args.network.now c.args.from c.args.workspace.now (state_at g.Z.Summer.state c.args.broad.now) now c.feed_arc.ensures.same c.requires.summers.ready
     c.args.number arc (g.Z.Summer.state c.in-Some.summer.now) c.numbered-arc.ensures.value (sym c.in-Some.ensures) in
     omega (arith, ready.start, c.get-least.ensures, c.least.ensures.value)
 
@@ -36,3 +38,14 @@ returns-in-Some-clause-sums g c = λ other at x less.
     let same : arc ≡ other = (let both : Some arc ≡ Some other = sym c.numbered-arc.ensures.value ∙ at in cc) in
     c.broad_sums.ensures.sums arc.time (row_value c.args.rows.now arc.head) c.numbered-arc.ensures.valid.time (sym (c.get-least.ensures ∙ c.least.ensures.value)) fed.fed x less
     ∙ ap (λ (a : Arc). plain_sum a (row_value c.args.rows.now) (c.args.from + x)) same
+
+-- feeding one of them leaves summers
+still : (g : given.Over) (c : After-feed_arc g) (t : ℕ) → AreSummers g.Z.Summer.state c.args.rows.now c.args.network.now t c.args.workspace.now c.args.broad.now
+    → AreSummers g.Z.Summer.state c.args.rows.now c.args.network.now t c.feed_arc.new.workspace c.feed_arc.new.broad
+still g c = fed-summers g.Z.Summer.state c.args.rows.now c.args.network.now c.args.workspace.now c.feed_arc.new.workspace c.args.broad.now c.feed_arc.new.broad c.feed_arc.ensures.length c.feed_arc.ensures.fed c.feed_arc.ensures.same c.feed_arc.ensures.work
+
+pub returns-in-Some-clause-summers : goal.returns-in-Some-clause-summers
+returns-in-Some-clause-summers g c = still g (goal.at.returns-in-Some-clause-summers g c).After-feed_arc
+
+pub returns-in-None-clause-summers : goal.returns-in-None-clause-summers
+returns-in-None-clause-summers g c = still g (goal.at.returns-in-None-clause-summers g c).After-feed_arc

@@ -1,12 +1,9 @@
-use Rattle.std.proofs.Common.{ℕ, ◌≡◌, ◌+◌, ◌<◌, ◌≤◌, min, Option, length, get_or, slice_index, sym, ◌∙◌, ap, subst, arith, ⊎_elim}
+use Rattle.std.proofs.Common.{ℕ, ◌≡◌, ◌+◌, ◌<◌, ◌≤◌, min, length, get_or, slice_index, sym, ◌∙◌, ap, subst, arith, ⊎_elim}
 use Rattle.std.proofs.lemmas.Bool.{cases_lt}
 use Rattle.std.proofs.lemmas.List.{get_or_default}
 use Rattle.sota_network.specs.Network.{Net}
 use Rattle.sota_period.specs.declared.ask.Ask.{Ask}
 use Rattle.sota_period.specs.Rows.{IsBlock, asked_need, asked_nodes, row_of}
-use Rattle.sota_online.specs.Summer.{SummerState}
-use Rattle.sota_period.specs.Broad.{state_at}
-use Rattle.sota_period.proofs.Feeding.{same-then, same-ready, later-ready}
 use Rattle.sota_period.proofs.Filling.{nodes-held, block-rows}
 use Rattle.sota_period.proofs.blocks.fill_block.Goals as goal
 
@@ -29,12 +26,6 @@ pub extend_row-requires-clause-block : goal.extend_row-requires-clause-block
 extend_row-requires-clause-block g c =
     subst (λ (count : ℕ). IsBlock c.args.ask.now c.args.network.now c.args.from count) (sym c.loop-node.invariant.bests) c.requires.block
 
-pub extend_row-requires-clause-ready : goal.extend_row-requires-clause-ready
-extend_row-requires-clause-ready g c =
-    let now : ℕ → Option SummerState = state_at g.Z.Summer.state c.loop-node.broad in
-    later-ready c.args.network.now c.args.from c.args.from c.args.workspace.now c.loop-node.workspace now (omega arith) c.loop-node.invariant.work
-    (same-ready c.args.network.now c.args.from c.args.workspace.now (state_at g.Z.Summer.state c.args.broad.now) now c.loop-node.invariant.same c.requires.ready)
-
 pub loop-node-preserved : goal.loop-node-preserved
 loop-node-preserved g c =
     let ask : Ask = c.args.ask.now in
@@ -45,11 +36,8 @@ loop-node-preserved g c =
       sums = c.extend_row.ensures.sums ∙ c.loop-node.invariant.sums;
       bests = c.extend_row.ensures.bests ∙ c.loop-node.invariant.bests;
       grains = c.extend_row.ensures.grains ∙ c.loop-node.invariant.grains;
-      broad = c.extend_row.ensures.broad ∙ c.loop-node.invariant.broad;
       rows = c.extend_row.ensures.rows;
-      fed = c.extend_row.ensures.fed;
-      same = same-then (state_at g.Z.Summer.state c.args.broad.now) (state_at g.Z.Summer.state c.loop-node.broad) (state_at g.Z.Summer.state c.extend_row.new.broad) c.loop-node.invariant.same c.extend_row.ensures.same;
-      work = c.extend_row.ensures.work ∙ c.loop-node.invariant.work;
+      summers = c.extend_row.ensures.summers;
       done = λ m less.
           ⊎_elim
           (λ (early : m < k). omega (arith, c.loop-node.invariant.done m early, c.extend_row.ensures.longer.long (slice_index ask.visited.now m)))

@@ -1,6 +1,6 @@
 use Rattle.std.proofs.Common.{ℕ, ◌≡◌, ◌+◌, ◌<◌, ◌≤◌, min, length, slice_index}
 use Rattle.sota_period.specs.Rows.{AreRows, asked_need, row_of}
-use Rattle.sota_period.specs.Broad.{AllFed, AreSame, state_at}
+use Rattle.sota_period.specs.Broad.{AreSummers}
 use Rattle.sota_period.proofs.blocks.fill_block.Given as goal
 
 abbrev pub invariant-loop-node : goal.invariant-loop-node
@@ -8,10 +8,7 @@ invariant-loop-node g l = record {
   sums : length l.sums ≡ length l.fn.sums;
   bests : length l.bests ≡ length l.fn.bests;
   grains : length l.grains ≡ length l.fn.grains;
-  broad : length l.broad ≡ length l.fn.broad;
   rows : AreRows l.ask l.from l.rows;
-  fed : AllFed l.rows l.network (state_at g.Z.Summer.state l.broad);
-  same : AreSame (state_at g.Z.Summer.state l.fn.broad) (state_at g.Z.Summer.state l.broad);
-  work : l.workspace ≡ l.fn.workspace;
+  summers : AreSummers g.Z.Summer.state l.rows l.network l.from l.workspace l.broad;
   done : (k : ℕ) → k < l.node-index → min (l.from + length l.fn.bests) (asked_need l.ask (slice_index l.ask.visited.now k)) ≤ length (row_of l.rows (slice_index l.ask.visited.now k));
 }

@@ -1,10 +1,10 @@
-use Rattle.std.proofs.Common.{ℕ, ◌≡◌, ◌+◌, ◌≤◌, ◌++◌, length, map, take, drop, refl, sym, ◌∙◌, ap, subst, arith, List}
-use Rattle.std.proofs.lemmas.List.{length-map, length-take-le, length-append, length-drop}
+use Rattle.std.proofs.Common.{ℕ, ◌≡◌, ◌+◌, ◌≤◌, ◌++◌, length, map, take, drop, refl, sym, ◌∙◌, subst, arith, List}
+use Rattle.std.proofs.lemmas.List.{length-take-le, length-append, length-drop}
 use Rattle.sota_network.specs.Network.{Net, IsArc}
 use Rattle.sota_period.specs.declared.ask.Ask.{Ask}
 use Rattle.sota_period.specs.Rows.{AreRows, asked_net}
-use Rattle.sota_period.specs.Broad.{SummerList, AllFed, AllReady, state_of, state_at, first_state}
-use Rattle.sota_period.proofs.Feeding.{start-fed, start-ready, same-ready, later-ready}
+use Rattle.sota_period.specs.Broad.{SummerList, AreSummers, state_of, first_state}
+use Rattle.sota_period.proofs.Feeding.{start-summers, later-summers}
 use Rattle.sota_period.proofs.Filling.{valid-held, nodes-held}
 use Rattle.sota_period.proofs.blocks.fill_period.Given as given
 use Rattle.sota_period.proofs.blocks.fill_period.Goals as goal
@@ -32,15 +32,12 @@ loop-at-init g c =
       bests = refl;
       grains = refl;
       rows = c.requires.rows;
-      count = ap length c.as_mut_slice-broad.ensures.value ∙ sym (length-map c.in_ok-summers.summers.items (state_of g.Z.Summer.state)) ∙ ap length made ∙ length-map net.arcs (first_state ask.needs.now c.args.from);
-      fed = subst (λ (xs : SummerList g.row.Z.Denot). AllFed c.args.rows.now net (state_at g.Z.Summer.state xs)) (sym c.as_mut_slice-broad.ensures.value)
-          (start-fed g.Z.Summer.state c.in_ok-summers.summers.items net ask.needs.now c.args.from made c.args.rows.now
+      summers = subst (λ (xs : SummerList g.row.Z.Denot). AreSummers g.Z.Summer.state c.args.rows.now net c.args.from c.in_ok-workspace.workspace xs) (sym c.as_mut_slice-broad.ensures.value)
+          (subst (λ (places : ℕ). AreSummers g.Z.Summer.state c.args.rows.now net c.args.from places c.in_ok-summers.summers.items) (sym c.in_ok-workspace.ensures)
+          (start-summers g.Z.Summer.state c.in_ok-summers.summers.items net ask.needs.now c.args.from made c.in_ok-summers.places c.in_ok-summers.ensures.places c.args.rows.now
           (λ e arc at.
           let v : IsArc net arc = c.network_laws.ensures.arc net e arc (valid-held c.network_laws.ensures ask c.requires.ask net c.args.from here) at in
-          c.requires.rows.room arc.head v.head.0 (omega (arith, v.head.1, nodes-held c.network_laws.ensures ask c.requires.ask net c.args.from here))));
-      ready = subst (λ (xs : SummerList g.row.Z.Denot). AllReady net c.args.from c.in_ok-workspace.workspace (state_at g.Z.Summer.state xs)) (sym c.as_mut_slice-broad.ensures.value)
-          (later-ready net c.args.from c.args.from c.in_ok-summers.places c.in_ok-workspace.workspace (state_at g.Z.Summer.state c.in_ok-summers.summers.items) (omega arith) c.in_ok-workspace.ensures
-          (start-ready g.Z.Summer.state c.in_ok-summers.summers.items net ask.needs.now c.args.from made c.in_ok-summers.places c.in_ok-summers.ensures.places));
+          c.requires.rows.room arc.head v.head.0 (omega (arith, v.head.1, nodes-held c.network_laws.ensures ask c.requires.ask net c.args.from here)))));
     }
 
 -- there is a place for each budget of the block
@@ -70,8 +67,5 @@ loop-at-preserved g c =
       bests = written-long c.min-count.result 64 c.loop-at.bests c.fill_block.new.bests c.loop-at.invariant.bests few c.fill_block.ensures.bests;
       grains = written-long c.min-count.result 64 c.loop-at.grains c.fill_block.new.grains c.loop-at.invariant.grains few c.fill_block.ensures.grains;
       rows = subst (λ (n : ℕ). AreRows ask (c.loop-at.at + n) c.fill_block.new.rows) long c.fill_block.ensures.rows;
-      count = c.fill_block.ensures.broad ∙ c.loop-at.invariant.count;
-      fed = c.fill_block.ensures.fed;
-      ready = later-ready c.args.network.now c.loop-at.at (c.loop-at.at + c.min-count.result) c.loop-at.workspace c.fill_block.new.workspace (state_at g.Z.Summer.state c.fill_block.new.broad) (omega arith) c.fill_block.ensures.work
-          (same-ready c.args.network.now c.loop-at.at c.loop-at.workspace (state_at g.Z.Summer.state c.loop-at.broad) (state_at g.Z.Summer.state c.fill_block.new.broad) c.fill_block.ensures.same c.loop-at.invariant.ready);
+      summers = later-summers (c.loop-at.at + c.min-count.result) (omega arith) c.fill_block.ensures.summers;
     }

@@ -1,6 +1,6 @@
 use Rattle.std.proofs.Common.{◌≡◌, ◌-◌, ◌≤◌, length}
 use Rattle.sota_period.specs.Rows.{AreRows}
-use Rattle.sota_period.specs.Broad.{AllFed, AllReady, state_at}
+use Rattle.sota_period.specs.Broad.{AreSummers}
 use Rattle.sota_period.proofs.blocks.fill_period.Given as goal
 
 abbrev pub invariant-loop-at : goal.invariant-loop-at
@@ -11,9 +11,7 @@ invariant-loop-at g l = record {
   bests : length l.bests ≡ 64;
   grains : length l.grains ≡ 64;
   rows : AreRows l.ask l.at l.rows;
-  count : length l.broad ≡ length l.network.arcs;
-  fed : AllFed l.rows l.network (state_at g.Z.Summer.state l.broad);
-  ready : AllReady l.network l.at l.workspace (state_at g.Z.Summer.state l.broad);
+  summers : AreSummers g.Z.Summer.state l.rows l.network l.at l.workspace l.broad;
 }
 
 abbrev pub decreases-loop-at : goal.decreases-loop-at

@@ -1,9 +1,8 @@
 use Rattle.std.proofs.Common.{ℕ, ◌≡◌, ◌+◌, ◌-◌, min, length, refl, ◌∙◌, ap, arith}
 use Rattle.sota_bank.specs.Rows.{cap_at}
 use Rattle.sota_period.specs.Rows.{asked_nodes}
-use Rattle.sota_period.specs.Broad.{state_at}
 use Rattle.sota_period.proofs.Filling.{nodes-held}
-use Rattle.sota_period.proofs.Feeding.{grown-fed, later-ready, same-none}
+use Rattle.sota_period.proofs.Feeding.{grown-summers, later-summers}
 use Rattle.sota_period.proofs.Extending.{GoesOn, HaveGrown, late, cut-long, ext-read, ext-room, ext-small, have-grown}
 use Rattle.sota_period.proofs.rows.extend_row.Given as given
 use Rattle.sota_period.proofs.rows.extend_row.Goals as goal
@@ -49,10 +48,10 @@ append_values-requires-clause-read g c =
     let on = goes-on g (goal.at.append_values-requires-clause-read g c).Then-at-end in
     ext-read on (cut-long on c.args.bests.now refl)
 
-pub append_values-requires-clause-ready : goal.append_values-requires-clause-ready
-append_values-requires-clause-ready g c =
-    let on = goes-on g (goal.at.append_values-requires-clause-ready g c).Then-at-end in
-    later-ready c.args.network.now c.args.from c.known_of-at.result c.args.workspace.now c.args.workspace.now (state_at g.Z.Summer.state c.args.broad.now) (late on) refl c.requires.ready
+pub append_values-requires-clause-summers : goal.append_values-requires-clause-summers
+append_values-requires-clause-summers g c =
+    let on = goes-on g (goal.at.append_values-requires-clause-summers g c).Then-at-end in
+    later-summers c.known_of-at.result (late on) c.requires.summers
 
 pub append_values-requires-clause-small : goal.append_values-requires-clause-small
 append_values-requires-clause-small g c =
@@ -79,11 +78,8 @@ returns-then-at-end-clause-reach g c =
     let at = goal.at.returns-then-at-end-clause-reach g c in
     (grown g at.After-append_values (goes-on g at.Then-at-end)).reach
 
-pub returns-then-at-end-clause-fed : goal.returns-then-at-end-clause-fed
-returns-then-at-end-clause-fed g c =
-    let at = goal.at.returns-then-at-end-clause-fed g c in
+pub returns-then-at-end-clause-summers : goal.returns-then-at-end-clause-summers
+returns-then-at-end-clause-summers g c =
+    let at = goal.at.returns-then-at-end-clause-summers g c in
     let longer = (grown g at.After-append_values (goes-on g at.Then-at-end)).longer in
-    grown-fed c.args.rows.now c.append_values.new.rows c.args.network.now (state_at g.Z.Summer.state c.append_values.new.broad) longer c.append_values.ensures.fed
-
-pub returns-else-at-end-clause-same : goal.returns-else-at-end-clause-same
-returns-else-at-end-clause-same g c = same-none (state_at g.Z.Summer.state c.args.broad.now)
+    grown-summers c.append_values.new.rows longer (c.append_values.ensures.summers c.args.from c.requires.summers)
