@@ -4,7 +4,7 @@ ghost use Rattle.std.specs.Prelude.{ℕ, ◌≡◌, ◌≤◌, ◌<◌, ◌∷�
 ghost use Rattle.sota_hist.specs.Time.{total};
 ghost use Rattle.sota_period.specs.Periods.{HasRoadsOf, ends};
 
-use crate::{Timed, plan_timed};
+use crate::{Timed, TimedAnswer, plan_timed};
 use sota_hist::Histogram;
 use sota_network::{Arc, Grid, Network, plain_grid};
 use sota_online::{BlockSummer, PlainSummer, Summer};
@@ -88,7 +88,22 @@ fn two_periods(alloc: Global, first: Network, second: Network) -> Result<Result<
     Ok(Timed::new(periods).map_err(|refused| refused.0))
 }
 
-/// The bounds and the arc of the ask from 1 to 3 within 3 ticks.
+/// What the ask from 1 to 3 within a budget is answered.
+fn asked<Z: Summer, M: Ledger>(
+    alloc: Global,
+    timed: &Timed,
+    budget: u32,
+    deadline: u32,
+    products: &mut Steps<M>,
+) -> Result<TimedAnswer, Fail>
+    requires { budget ≤ deadline }
+{
+    Ok(plan_timed::<Z, M>(
+        alloc, timed, 1, 3, budget, deadline, products,
+    )?)
+}
+
+/// The bounds and the arc of the ask within 3 ticks.
 fn rows<M: Ledger>(rt: &impl Abort, alloc: Global, blank: Blank) -> Result<(), Fail>
     requires { (blank.name ≡ M.name) × (blank.parts ≡ M.parts) × (0 < blank.parts) }
 {
@@ -97,11 +112,11 @@ fn rows<M: Ledger>(rt: &impl Abort, alloc: Global, blank: Blank) -> Result<(), F
     let timed = timed.ok().ok_or("one scale")?;
 
     // Who leaves at 7 takes the second road at 8, when it is quick.
-    let late = plan_timed::<PlainSummer, M>(alloc, &timed, 1, 3, 3, 10, &mut products)?;
+    let late = asked::<PlainSummer, M>(alloc, &timed, 3, 10, &mut products)?;
     assert_eq!(rt; late.lower.get(), 1_000_000_000_000_000_000);
     assert_eq!(rt; late.upper.get(), 1_000_000_000_000_000_000);
     assert_eq!(rt; late.next, Some(ArcId(1)));
-    let early = plan_timed::<BlockSummer, M>(alloc, &timed, 1, 3, 3, 7, &mut products)?;
+    let early = asked::<BlockSummer, M>(alloc, &timed, 3, 7, &mut products)?;
     assert_eq!(rt; early.lower.get(), 750_000_000_000_000_000);
     assert_eq!(rt; early.upper.get(), 750_000_000_000_000_000);
     assert_eq!(rt; early.next, Some(ArcId(3)));
@@ -183,7 +198,7 @@ fn same_as_plain<Z: Summer, M: Ledger>(
 {
     for place in 0..4 {
         let budget = [0, 5, 40, 150][place];
-        let answer = plan_timed::<Z, M>(alloc, timed, 1, 3, budget, 200, products)?;
+        let answer = asked::<Z, M>(alloc, timed, budget, 200, products)?;
         assert_eq!(rt; answer.lower, grid.lower(NodeId(1), budget));
         assert_eq!(rt; answer.upper, grid.upper(NodeId(1), budget));
         assert_eq!(rt; answer.next, grid.choice(NodeId(1), budget));
