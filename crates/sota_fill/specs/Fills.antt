@@ -7,7 +7,11 @@ use Rattle.sota_network.specs.declared.network.Arc.{Arc}
 use Rattle.sota_kept.specs.Ticks.{END_LIMIT}
 use Rattle.sota_kept.specs.NodeTables.{NodeTable, AreReady, IsExtent, known_end}
 use Rattle.sota_kept.specs.NodeTables.{lower_in, upper_in}
+use Rattle.sota_online.specs.Summer.{SummerState}
 use Rattle.sota_tables.specs.Views.{TablesView, OnlyAt, table_at, room_of}
+use Rattle.sota_fill.specs.Fed.{AreFed, IsTarget, SummersList, summers_at}
+use Rattle.sota_fill.specs.declared.broad.Summers.{Summers}
+use Rattle.sota_fill.specs.declared.target.Target.{Target}
 
 -- so many entries more at node i, from its known end on: only its front, its rows and its room
 -- change
@@ -46,3 +50,18 @@ pub record IsUnfilled (net : Net) (dest i from to : ℕ) (tables : TablesView) :
   pub extent : IsExtent net dest (table_at tables) i to
   pub limit : to ≤ END_LIMIT
   pub room : to ≤ from + room_of tables i
+
+-- the sums of an arc at the budgets from one on below `to` can be made by its summers, which were
+-- fed all that these read, and by the tables, which have it
+pub record CanSum {Z : Type 0} (state : Z → SummerState) (target : Target) (tables : TablesView)
+    (broad : SummersList Z) (number from to : ℕ) : Type 0 where
+  pub is_target : IsTarget target
+  pub is_number : (1 ≤ number) × (number ≤ length target.network.now.arcs)
+  pub nodes : length tables.fronts ≡ target.network.now.nodes
+  pub arcs : length broad ≡ length target.network.now.arcs
+  pub limit : to ≤ END_LIMIT
+  pub fed : (arc : Arc) (two : Summers Z) → arc_at target.network.now number ≡ Some arc
+      → summers_at broad number ≡ Some two
+      → AreFed state target.network.now target.dest arc from to two
+  pub reads : (arc : Arc) → arc_at target.network.now number ≡ Some arc
+      → ReadsAs target.network.now target.dest arc to (table_at tables)

@@ -9,9 +9,8 @@ ghost use Rattle.sota_kept.specs.NodeTables.{lower_in, upper_in};
 ghost use Rattle.sota_tables.specs.Views.{HasNode, table_at};
 ghost use Rattle.sota_fill.specs.Beaten.{IsRaised};
 ghost use Rattle.sota_fill.specs.Bounds.{bound_row, value_in};
-ghost use Rattle.sota_fill.specs.Fed.{AllFed, AreFed, IsTarget, summers_at};
-ghost use Rattle.sota_fill.specs.Fills.{ReadsAs, ReadsGrid};
-ghost use Rattle.sota_fill.specs.declared.broad.Summers.{Summers};
+ghost use Rattle.sota_fill.specs.Fed.{AllFed, IsTarget};
+ghost use Rattle.sota_fill.specs.Fills.{CanSum, ReadsGrid};
 
 use crate::beaten::{is_beaten, is_far_below};
 use crate::broad::{Summers, broad_sums, summers_of};
@@ -61,18 +60,8 @@ fn sums_of<Z: Summer>(
     from: u32,
     into: &mut [u128],
 )
-    requires number { (1 ≤ number) × (number ≤ length target.now.network.now.arcs) }
-    requires nodes { length tables.now.fronts ≡ target.now.network.now.nodes }
-    requires broad { length broad.now ≡ length target.now.network.now.arcs }
-    requires target { IsTarget target.now }
-    requires fed { (arc : Arc) (two : Summers Z) → arc_at target.now.network.now number ≡ Some arc
-        → summers_at broad.now number ≡ Some two
-        → AreFed Z.state target.now.network.now target.now.dest arc from
-        (from + length into.old) two }
-    requires reads { (arc : Arc) → arc_at target.now.network.now number ≡ Some arc
-        → ReadsAs target.now.network.now target.now.dest arc (from + length into.old)
-        (table_at tables.now) }
-    requires limit { from + length into.old ≤ END_LIMIT }
+    requires { CanSum Z.state target.now tables.now broad.now number from
+        (from + length into.old) }
     ensures sums { (arc : Arc) → arc_at target.now.network.now number ≡ Some arc → (x : ℕ)
         → x < length into.old → slice_index into.new x
         ≡ plain_sum arc (value_in bound target.now.dest (table_at tables.now)) (from + x) }
@@ -98,16 +87,7 @@ fn add_lower<Z: Summer>(
     count: usize,
     part: &mut Part,
 ) -> u128
-    requires number { (1 ≤ number) × (number ≤ length target.now.network.now.arcs) }
-    requires nodes { length tables.now.fronts ≡ target.now.network.now.nodes }
-    requires broad { length broad.now ≡ length target.now.network.now.arcs }
-    requires target { IsTarget target.now }
-    requires fed { (arc : Arc) (two : Summers Z) → arc_at target.now.network.now number ≡ Some arc
-        → summers_at broad.now number ≡ Some two
-        → AreFed Z.state target.now.network.now target.now.dest arc from (from + count) two }
-    requires reads { (arc : Arc) → arc_at target.now.network.now number ≡ Some arc
-        → ReadsAs target.now.network.now target.now.dest arc (from + count) (table_at tables.now) }
-    requires limit { from + count ≤ END_LIMIT }
+    requires sum { CanSum Z.state target.now tables.now broad.now number from (from + count) }
     requires count { (1 ≤ count) × (count ≤ 64) }
     ensures lower { (arc : Arc) → arc_at target.now.network.now number ≡ Some arc → (x : ℕ)
         → x < count → slice_index part.new.lower x ≡ max (slice_index part.old.lower x)
@@ -143,16 +123,7 @@ fn add_upper<Z: Summer>(
     count: usize,
     part: &mut Part,
 )
-    requires number { (1 ≤ number) × (number ≤ length target.now.network.now.arcs) }
-    requires nodes { length tables.now.fronts ≡ target.now.network.now.nodes }
-    requires broad { length broad.now ≡ length target.now.network.now.arcs }
-    requires target { IsTarget target.now }
-    requires fed { (arc : Arc) (two : Summers Z) → arc_at target.now.network.now number ≡ Some arc
-        → summers_at broad.now number ≡ Some two
-        → AreFed Z.state target.now.network.now target.now.dest arc from (from + count) two }
-    requires reads { (arc : Arc) → arc_at target.now.network.now number ≡ Some arc
-        → ReadsAs target.now.network.now target.now.dest arc (from + count) (table_at tables.now) }
-    requires limit { from + count ≤ END_LIMIT }
+    requires sum { CanSum Z.state target.now tables.now broad.now number from (from + count) }
     requires count { (1 ≤ count) × (count ≤ 64) }
     ensures upper { (arc : Arc) → arc_at target.now.network.now number ≡ Some arc → (x : ℕ)
         → x < count → slice_index part.new.upper x ≡ max (slice_index part.old.upper x)
@@ -177,16 +148,7 @@ fn add_arc<Z: Summer>(
     floor: Grain,
     part: &mut Part,
 )
-    requires number { (1 ≤ number) × (number ≤ length target.now.network.now.arcs) }
-    requires nodes { length tables.now.fronts ≡ target.now.network.now.nodes }
-    requires broad { length broad.now ≡ length target.now.network.now.arcs }
-    requires target { IsTarget target.now }
-    requires fed { (arc : Arc) (two : Summers Z) → arc_at target.now.network.now number ≡ Some arc
-        → summers_at broad.now number ≡ Some two
-        → AreFed Z.state target.now.network.now target.now.dest arc from (from + count) two }
-    requires reads { (arc : Arc) → arc_at target.now.network.now number ≡ Some arc
-        → ReadsAs target.now.network.now target.now.dest arc (from + count) (table_at tables.now) }
-    requires limit { from + count ≤ END_LIMIT }
+    requires sum { CanSum Z.state target.now tables.now broad.now number from (from + count) }
     requires count { (1 ≤ count) × (count ≤ 64) }
     ensures lower { (arc : Arc) → arc_at target.now.network.now number ≡ Some arc → (x : ℕ)
         → x < count → slice_index part.new.lower x ≡ max (slice_index part.old.lower x)

@@ -15,7 +15,7 @@ returns-then-is_far_below-clause-upper g c = λ arc at x h.
     let far : most + net.scale * (2 * to) < net.scale * c.args.floor = subst (λ (q : ℕ). most + q * (2 * to) < q * c.args.floor) c.scale-scale.ensures.value (c.is_far_below.ensures c.if-is_far_below.true) in
     inr (
       ap (λ (us : List ℕ). slice_index us x) c.add_lower-most.ensures.upper,
-      far-upper net laws c.args.target.now.dest (table_at c.args.tables.now) arc c.args.from c.args.count x most c.args.floor (laws.arc c.args.number arc at) (c.requires.reads arc at) h (c.add_lower-most.ensures.last arc at) far,
+      far-upper net laws c.args.target.now.dest (table_at c.args.tables.now) arc c.args.from c.args.count x most c.args.floor (laws.arc c.args.number arc at) (c.requires.sum.reads arc at) h (c.add_lower-most.ensures.last arc at) far,
     )
 
 pub returns-clause-upper : goal.returns-clause-upper

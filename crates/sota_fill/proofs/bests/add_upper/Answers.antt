@@ -1,9 +1,9 @@
 use Rattle.std.proofs.Common.{ℕ, ◌≡◌, ◌+◌, take, length, sym, subst, arith}
-use Rattle.sota_fill.specs.Fed.{AreFed}
+use Rattle.sota_fill.specs.Fills.{CanSum}
 use Rattle.sota_fill.proofs.Summed.{take-long}
 use Rattle.sota_fill.proofs.bests.add_upper.Goals as goal
 
-pub sums_of-requires-clause-fed : goal.sums_of-requires-clause-fed
-sums_of-requires-clause-fed g c = λ arc two at is.
+pub sums_of-requires : goal.sums_of-requires
+sums_of-requires g c =
     let long : length (take c.args.count c.args.part.now.sums) ≡ c.args.count = take-long c.args.count c.args.part.now.sums (omega (arith, c.requires.count.1)) in
-    subst (λ (n : ℕ). AreFed g.Z.Summer.state c.args.target.now.network.now c.args.target.now.dest arc c.args.from (c.args.from + n) two) (sym long) (c.requires.fed arc two at is)
+    subst (λ (n : ℕ). CanSum g.Z.Summer.state c.args.target.now c.args.tables.now c.args.broad.now c.args.number c.args.from (c.args.from + n)) (sym long) c.requires.sum

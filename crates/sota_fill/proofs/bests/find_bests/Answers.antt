@@ -1,15 +1,17 @@
 -- After k arcs the bests are those of the first k numbers, as far as they are not below the floor.
-use Rattle.std.proofs.Common.{ℕ, ◌≡◌, ◌+◌, ◌*◌, ◌<◌, ◌==◌, slice_index, slice_index_or, List, None, Some, length, get_or, sym, ap, ◌∙◌, arith}
+use Rattle.std.proofs.Common.{ℕ, ◌≡◌, ◌+◌, ◌*◌, ◌<◌, ◌≤◌, ◌==◌, slice_index, slice_index_or, List, None, Some, length, take, get_or, sym, ap, ◌∙◌, arith}
 use Rattle.sota_network.specs.Network.{Net, arc_at}
-use Rattle.sota_network.specs.Grid.{plain_sum}
+use Rattle.sota_network.specs.Grid.{best_of, plain_sum}
 use Rattle.sota_network.specs.declared.network.Arc.{Arc}
 use Rattle.sota_kept.specs.NodeTables.{lower_in, upper_in}
 use Rattle.sota_tables.specs.Views.{TablesView, table_at}
 use Rattle.sota_fill.specs.declared.target.Target.{Target}
-use Rattle.sota_network.specs.Among.{AmongLaws, leaving_numbers, numbered_worth}
+use Rattle.sota_network.specs.Among.{AmongLaws, best_among, leaving_numbers, numbered_worth}
 use Rattle.sota_fill.proofs.Below.{beaten-lower, beaten-upper}
-use Rattle.sota_fill.proofs.Near.{near-step, near-pass, near-raise, near-end, choice-near-step, choice-near-pass, choice-near-end}
+use Rattle.sota_fill.proofs.Near.{Near, near-step, near-pass, near-raise, near-end, choice-near-step, choice-near-pass, choice-near-end}
+use Rattle.sota_fill.proofs.bests.find_bests.Given as given
 use Rattle.sota_fill.proofs.bests.find_bests.Goals as goal
+use Rattle.sota_fill.proofs.bests.find_bests.Goals.{After-loop-number}
 
 -- what an arc is worth at the budget x places on
 abbrev lower_worth : Target → TablesView → ℕ → ℕ → Arc → ℕ
@@ -26,21 +28,23 @@ out-tail among net node es k e arc same h is number =
     let found : out.0 ≡ arc = cc in
     ap (λ (x : Arc). x.tail) (sym found) ∙ out.2
 
-pub add_arc-requires-clause-fed : goal.add_arc-requires-clause-fed
-add_arc-requires-clause-fed g c = λ arc two at is.
+pub add_arc-requires-clause-sum : goal.add_arc-requires-clause-sum
+add_arc-requires-clause-sum g c =
     let net : Net = c.args.target.now.network.now in
+    let e : ℕ = c.number-item.result in
     let among : AmongLaws = (c.filling_laws.ensures net c.leaving-number-items.ensures.valid).among in
-    let tail : arc.tail ≡ c.args.node =
-    out-tail among net c.args.node c.leaving-number-items.result.now c.loop-number.number-index c.number-item.result arc c.leaving-number-items.ensures.value c.loop-number-test.true c.number-item.is at in
-    c.requires.fed c.number-item.result arc two at tail is
-
-pub add_arc-requires-clause-reads : goal.add_arc-requires-clause-reads
-add_arc-requires-clause-reads g c = λ arc at.
-    let net : Net = c.args.target.now.network.now in
-    let among : AmongLaws = (c.filling_laws.ensures net c.leaving-number-items.ensures.valid).among in
-    let tail : arc.tail ≡ c.args.node =
-    out-tail among net c.args.node c.leaving-number-items.result.now c.loop-number.number-index c.number-item.result arc c.leaving-number-items.ensures.value c.loop-number-test.true c.number-item.is at in
-    c.requires.reads c.number-item.result arc at tail
+    let within = c.leaving-number-items.ensures.within c.loop-number.number-index e c.loop-number-test.true in
+    let tail : (arc : Arc) → arc_at net e ≡ Some arc → arc.tail ≡ c.args.node = λ arc at.
+    out-tail among net c.args.node c.leaving-number-items.result.now c.loop-number.number-index e arc c.leaving-number-items.ensures.value c.loop-number-test.true c.number-item.is at in
+    record {
+      is_target = c.requires.target;
+      is_number = (omega (arith, within.0, c.number-item.is), omega (arith, within.1, c.number-item.is));
+      nodes = c.requires.nodes;
+      arcs = c.requires.broad;
+      limit = c.requires.limit;
+      fed = λ arc two at is. c.requires.fed e arc two at (tail arc at) is;
+      reads = λ arc at. c.requires.reads e arc at (tail arc at);
+    }
 
 pub loop-number-preserved-then-is_beaten : goal.loop-number-preserved-then-is_beaten
 loop-number-preserved-then-is_beaten g c =
@@ -97,21 +101,23 @@ loop-number-preserved g c =
           c.number-item.is (among.number net (L x) e arc at) (c.loop-number.invariant.lower x h) (c.loop-number.invariant.choices x h) (c.add_arc.ensures.choices arc at x h);
     }
 
-pub returns-clause-lower : goal.returns-clause-lower
-returns-clause-lower g c = λ x h.
+-- after all arcs what is found is the greatest sum
+ended : (g : given.Over) (c : After-loop-number g) (worth : Arc → ℕ) (best : ℕ)
+    → Near (c.args.target.now.network.now.scale * c.args.floor) best (best_among (numbered_worth c.args.target.now.network.now worth) (take c.loop-number.number-index c.leaving-number-items.result.now))
+    → c.args.target.now.network.now.scale * c.args.floor ≤ best_of c.args.target.now.network.now.arcs worth c.args.node → best ≡ best_of c.args.target.now.network.now.arcs worth c.args.node
+ended g c worth best near most =
     let net : Net = c.args.target.now.network.now in
     let among : AmongLaws = (c.filling_laws.ensures net c.leaving-number-items.ensures.valid).among in
-    let L = lower_worth c.args.target.now c.args.tables.now c.args.from x in
-    let all = among.best_end net L c.args.node c.leaving-number-items.result.now c.loop-number.number-index c.leaving-number-items.ensures.value c.loop-number-test.false in
-    near-end (net.scale * c.args.floor) (slice_index c.loop-number.part.lower x) _ (c.loop-number.invariant.lower x h) (omega (arith, all, c.requires.lower_floor x h)) ∙ all
+    let all = among.best_end net worth c.args.node c.leaving-number-items.result.now c.loop-number.number-index c.leaving-number-items.ensures.value c.loop-number-test.false in
+    near-end (net.scale * c.args.floor) best _ near (omega (arith, all, most)) ∙ all
+
+pub returns-clause-lower : goal.returns-clause-lower
+returns-clause-lower g c = λ x h.
+    ended g (goal.at.returns-clause-lower g c).After-loop-number (lower_worth c.args.target.now c.args.tables.now c.args.from x) (slice_index c.loop-number.part.lower x) (c.loop-number.invariant.lower x h) (c.requires.lower_floor x h)
 
 pub returns-clause-upper : goal.returns-clause-upper
 returns-clause-upper g c = λ x h.
-    let net : Net = c.args.target.now.network.now in
-    let among : AmongLaws = (c.filling_laws.ensures net c.leaving-number-items.ensures.valid).among in
-    let U = upper_worth c.args.target.now c.args.tables.now c.args.from x in
-    let all = among.best_end net U c.args.node c.leaving-number-items.result.now c.loop-number.number-index c.leaving-number-items.ensures.value c.loop-number-test.false in
-    near-end (net.scale * c.args.floor) (slice_index c.loop-number.part.upper x) _ (c.loop-number.invariant.upper x h) (omega (arith, all, c.requires.upper_floor x h)) ∙ all
+    ended g (goal.at.returns-clause-upper g c).After-loop-number (upper_worth c.args.target.now c.args.tables.now c.args.from x) (slice_index c.loop-number.part.upper x) (c.loop-number.invariant.upper x h) (c.requires.upper_floor x h)
 
 pub returns-clause-choices : goal.returns-clause-choices
 returns-clause-choices g c = λ x h.
