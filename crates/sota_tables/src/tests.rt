@@ -1,12 +1,14 @@
 // Each call with ample memory: two nodes, of which the second is the destination.
 ghost use Rattle.std.specs.Prelude.{◌≡◌, ◌<◌, ◌≤◌, ◌∷◌, [], length, IfOk, None, Some};
-ghost use Rattle.sota_tables.specs.Views.{table_at, room_of};
+ghost use Rattle.sota_kept.specs.NodeTables.{known_end};
+ghost use Rattle.sota_tables.specs.Views.{IsKnownAt, table_at, room_of};
 
 use crate::Tables;
 use sota_network::Choice;
 use sota_units::{ArcId, Grain, NoMemory, NodeId, Steps};
 use std::alloc::Global;
 use std::marker::Brand;
+use std::process::Abort;
 use std::sync::ledger::{Blank, Ledger};
 use std::test::Fail;
 
@@ -50,11 +52,30 @@ fn push_two<P: Ledger>(tables: &mut Tables, blank: Blank)
     tables.push_extent(NodeId(1), &one, &one, &second, &mut pushes);
 }
 
-#[test]
-fn keeps_entries(rt: HostRuntime) -> Result<(), Fail> {
-    let mut tables = two_nodes(rt.alloc())?;
-    push_two::<Brand>(&mut tables, Blank::new(1));
-    assert_eq!(rt; tables.dest(), Some(NodeId(2)));
+/// What is known of a node at a budget: the two bounds and the choice.
+fn known(tables: &Tables, node: NodeId, budget: u32) -> (Grain, Grain, Option<ArcId>)
+    requires { IsKnownAt tables.now node budget }
+{
+    (tables.lower(node, budget), tables.upper(node, budget), tables.choice(node, budget))
+}
+
+/// The first node is known from below its base up to its front, and the destination everywhere.
+fn answers(rt: &impl Abort, tables: &Tables)
+    requires dest { tables.now.dest ≡ Some 2 }
+    requires nodes { length tables.now.fronts ≡ 2 }
+    requires end { known_end (table_at tables.now 1) ≡ 3 }
+{
+    let (none, one) = (Grain::ZERO, Grain::ONE);
+    assert_eq!(rt; known(tables, NodeId(1), 0), (none, none, None));
+    assert_eq!(rt; known(tables, NodeId(1), 1), (none, one, None));
+    assert_eq!(rt; known(tables, NodeId(1), 2), (one, one, Some(ArcId(2))));
+    assert_eq!(rt; known(tables, NodeId(2), 9), (one, one, None));
+}
+
+/// The front, the base and the rows of the first node.
+fn rows(rt: &impl Abort, tables: &Tables)
+    requires { length tables.now.fronts ≡ 2 }
+{
     assert_eq!(rt; (tables.front(NodeId(1)), tables.base(NodeId(1))), (3, 1));
     assert_eq!(rt;
         tables.lower_row(NodeId(1)),
@@ -64,13 +85,15 @@ fn keeps_entries(rt: HostRuntime) -> Result<(), Fail> {
         tables.upper_row(NodeId(1)),
         [Grain::ONE, Grain::ONE].as_slice()
     );
-    assert_eq!(rt; tables.lower(NodeId(1), 0), Grain::ZERO);
-    assert_eq!(rt; tables.lower(NodeId(1), 2), Grain::ONE);
-    assert_eq!(rt; tables.upper(NodeId(1), 1), Grain::ONE);
-    assert_eq!(rt; tables.choice(NodeId(1), 2), Some(ArcId(2)));
-    assert_eq!(rt; tables.lower(NodeId(2), 9), Grain::ONE);
-    assert_eq!(rt; tables.upper(NodeId(2), 9), Grain::ONE);
-    assert_eq!(rt; tables.choice(NodeId(2), 9), None);
+}
+
+#[test]
+fn keeps_entries(rt: HostRuntime) -> Result<(), Fail> {
+    let mut tables = two_nodes(rt.alloc())?;
+    push_two::<Brand>(&mut tables, Blank::new(1));
+    assert_eq!(rt; tables.dest(), Some(NodeId(2)));
+    rows(&rt, &tables);
+    answers(&rt, &tables);
     tables.cut_to(NodeId(1), 2);
     assert_eq!(rt; tables.lower_row(NodeId(1)), [Grain::ZERO].as_slice());
     Ok(())
