@@ -1,4 +1,5 @@
 pub mod Below
+pub mod FedTo
 pub mod Feeding
 pub mod Halved
 pub mod Later

@@ -5,12 +5,14 @@ mod beaten;
 mod bests;
 mod broad;
 mod certain;
+mod feed;
 mod fill;
 pub mod laws;
 mod part;
 mod target;
 
 pub use broad::{Summers, broad_sums};
+pub use feed::{feed_ones, feed_row};
 pub use fill::fill_extent;
 pub use part::Part;
 pub use target::{Target, base_of};

@@ -1,5 +1,5 @@
 -- The summers of broad arcs, and what they were fed.
-use Rattle.std.specs.Prelude.{ℕ, ◌≡◌, ◌+◌, ◌-◌, ◌<◌, ◌≤◌, ◌&&◌, max, nat_lt, Bool, false, List, []}
+use Rattle.std.specs.Prelude.{ℕ, ◌≡◌, ◌+◌, ◌-◌, ◌<◌, ◌≤◌, ◌&&◌, nat_lt, Bool, false, List, []}
 use Rattle.std.specs.Prelude.{length, slice_index_or, Option, None, Some, Box, if◌then◌else◌}
 use Rattle.std.specs.declared.alloc.Global.{Global}
 use Rattle.sota_bank.specs.Rows.{Row}
@@ -69,13 +69,6 @@ AllReady net from places at = (e : ℕ) (arc : Arc) (state : SummerState) → ar
 abbrev pub AreSame : (ℕ → Option SummerState) → (ℕ → Option SummerState) → Type 0
 AreSame before after = (e : ℕ) (state : SummerState) → 1 ≤ e → after e ≡ Some state
     → (was : SummerState) × (before e ≡ Some was) × IsSameSummer was state
-
--- a summer was fed on, the given values, until so many are fed
-pub record IsFedOn (value : ℕ → ℕ) (to : ℕ) (old new : SummerState) : Type 0 where
-  pub fed : (time : List (ℕ × ℕ)) (f : ℕ → ℕ) → IsFed old time 0 f
-      → ((a : ℕ) → a < to → value a ≡ f a) → IsFed new time 0 f
-  pub count : length new.values ≡ max (length old.values) to
-  pub same : IsSameSummer old new
 
 -- the summer of an open arc was fed values of its head's row, and has room for the row
 pub record IsFedArc (rows : List (Row ℕ)) (arc : Arc) (state : SummerState) : Type 0 where

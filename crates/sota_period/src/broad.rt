@@ -8,12 +8,13 @@ ghost use Rattle.sota_network.specs.Network.{arc_at};
 ghost use Rattle.sota_network.specs.declared.network.Arc.{Arc};
 ghost use Rattle.sota_period.specs.Rows.{row_of};
 ghost use Rattle.sota_online.specs.Summer.{SummerState};
-ghost use Rattle.sota_period.specs.Broad.{AllFed, AreSame, IsFedOn, IsWorkFor};
+ghost use Rattle.sota_period.specs.Broad.{AllFed, AreSame, IsWorkFor};
 ghost use Rattle.sota_period.specs.Broad.{first_state, is_summed, kernel_places};
 ghost use Rattle.sota_period.specs.Broad.{state_at, state_of};
 
 use crate::table::{known_of, row_of};
 use sota_bank::RowBank;
+use sota_fill::feed_row;
 use sota_network::{Arc, Network};
 use sota_online::{Summer, Workspace};
 use sota_units::{ArcId, Grain, NoMemory, Steps, Tick};
@@ -90,26 +91,6 @@ pub(crate) fn make_summers<Z: Summer>(
     Ok((summers, places))
 }
 
-/// Feeds a summer the values of a row until so many are fed.
-fn feed_row<Z: Summer, M: Ledger>(
-    summer: &mut Z,
-    row: &[Grain],
-    to: u32,
-    workspace: &mut Workspace,
-    products: &mut Steps<M>,
-)
-    requires room { to ≤ length (Z.state summer.old).values + (Z.state summer.old).room }
-    requires row { to ≤ length row.now }
-    requires work { length (Z.state summer.old).kernel ≤ workspace.old }
-    ensures fed { IsFedOn (λ a. slice_index row.now a) to (Z.state summer.old)
-        (Z.state summer.new) }
-    ensures work { workspace.new ≡ workspace.old }
-{
-    for index in summer.fed()..to {
-        summer.feed(row[index as usize], workspace, products);
-    }
-}
-
 /// Feeds the summer of an arc, where it has one, the row of its head as far as it goes.
 pub(crate) fn feed_arc<Z: Summer, M: Ledger>(
     network: &Network,
@@ -137,7 +118,7 @@ pub(crate) fn feed_arc<Z: Summer, M: Ledger>(
     let known = known_of(rows, head);
     let row = row_of(rows, head);
     if let Some(summer) = &mut broad[number.get() as usize - 1] {
-        feed_row(&mut **summer, row, known, workspace, products);
+        feed_row(&mut **summer, row, 0, known, workspace, products);
     }
 }
 

@@ -1,7 +1,6 @@
 // Feeds summers the values at the heads of their arcs.
-ghost use Rattle.std.specs.Prelude.{ℕ, ◌≡◌, ◌≢◌, ◌+◌, ◌-◌, ◌<◌, ◌≤◌, max, List, length};
-ghost use Rattle.std.specs.Prelude.{slice_index, None, Some, false};
-ghost use Rattle.sota_units.specs.Rounding.{ONE};
+ghost use Rattle.std.specs.Prelude.{ℕ, ◌≡◌, ◌≢◌, ◌+◌, ◌-◌, ◌<◌, ◌≤◌, max, length};
+ghost use Rattle.std.specs.Prelude.{None, Some, false};
 ghost use Rattle.sota_hist.specs.Time.{is_closed, least_tick};
 ghost use Rattle.sota_network.specs.Network.{IsNet, IsNode, arc_at};
 ghost use Rattle.sota_network.specs.declared.network.Arc.{Arc};
@@ -15,65 +14,13 @@ ghost use Rattle.sota_fill.specs.declared.broad.Summers.{Summers};
 ghost use Rattle.sota_plan.specs.Summed.{CanFeed, AllCanFeed, SummedAs, values_below};
 
 use sota_fill::laws::extents_read_the_grid;
-use sota_fill::{Summers, Target};
+use sota_fill::{Summers, Target, feed_ones, feed_row};
 use sota_network::Arc;
 use sota_network::laws::numbers_of_arcs;
 use sota_online::{Summer, Workspace};
 use sota_tables::Tables;
-use sota_units::{ArcId, Grain, NodeId, Steps};
+use sota_units::{ArcId, NodeId, Steps};
 use std::sync::ledger::Ledger;
-
-/// Feeds a summer until so many values are fed: value `a` is that at the index `skip + a` of a row.
-fn feed_row<Z: Summer, M: Ledger>(
-    summer: &mut Z,
-    row: &[Grain],
-    skip: usize,
-    count: u32,
-    workspace: &mut Workspace,
-    products: &mut Steps<M>,
-)
-    requires room { count ≤ length (Z.state summer.old).values + (Z.state summer.old).room }
-    requires row { 0 < count → skip + count ≤ length row.now }
-    requires limit { skip ≤ 65536 }
-    requires work { length (Z.state summer.old).kernel ≤ workspace.old }
-    ensures fed { (time : List (ℕ × ℕ)) (base : ℕ) (f : ℕ → ℕ)
-        → IsFed (Z.state summer.old) time base f
-        → ((a : ℕ) → a < count → slice_index row.now (skip + a) ≡ f (base + a))
-        → IsFed (Z.state summer.new) time base f }
-    ensures count { length (Z.state summer.new).values
-        ≡ max (length (Z.state summer.old).values) count }
-    ensures same { IsSameSummer (Z.state summer.old) (Z.state summer.new) }
-    ensures work { workspace.new ≡ workspace.old }
-{
-    for index in summer.fed()..count {
-        summer.feed(row[skip + index as usize], workspace, products);
-    }
-}
-
-/// Feeds a summer until so many values are fed: who stands at the destination has arrived.
-fn feed_ones<Z: Summer, M: Ledger>(
-    summer: &mut Z,
-    count: u32,
-    workspace: &mut Workspace,
-    products: &mut Steps<M>,
-)
-    requires room { count ≤ length (Z.state summer.old).values + (Z.state summer.old).room }
-    requires work { length (Z.state summer.old).kernel ≤ workspace.old }
-    ensures fed { (time : List (ℕ × ℕ)) (base : ℕ) (f : ℕ → ℕ)
-        → IsFed (Z.state summer.old) time base f
-        → ((a : ℕ) → a < count → ONE ≡ f (base + a))
-        → IsFed (Z.state summer.new) time base f }
-    ensures count { length (Z.state summer.new).values
-        ≡ max (length (Z.state summer.old).values) count }
-    ensures same { IsSameSummer (Z.state summer.old) (Z.state summer.new) }
-    ensures work { workspace.new ≡ workspace.old }
-{
-    let mut fed = summer.fed();
-    while fed < count {
-        summer.feed(Grain::ONE, workspace, products);
-        fed += 1;
-    }
-}
 
 /// Feeds the two summers of an open arc what the budgets of its tail below `to` rest on: the values
 /// at its head from a base on.

@@ -1,5 +1,5 @@
 -- After k arcs the bests are those of the first k numbers, as far as they are not below the floor.
-use Rattle.std.proofs.Common.{ℕ, ◌≡◌, ◌+◌, ◌*◌, ◌<◌, ◌≤◌, ◌==◌, slice_index, slice_index_or, List, None, Some, length, take, get_or, sym, ap, ◌∙◌, arith}
+use Rattle.std.proofs.Common.{ℕ, ◌≡◌, ◌+◌, ◌*◌, ◌<◌, ◌≤◌, slice_index, slice_index_or, List, None, Some, length, take, get_or, sym, ap, ◌∙◌, arith}
 use Rattle.sota_network.specs.Network.{Net, arc_at}
 use Rattle.sota_network.specs.Grid.{best_of, plain_sum}
 use Rattle.sota_network.specs.declared.network.Arc.{Arc}

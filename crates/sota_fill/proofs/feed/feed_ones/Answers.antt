@@ -1,7 +1,7 @@
 use Rattle.std.proofs.Common.{ℕ, refl}
 use Rattle.sota_units.specs.Rounding.{ONE}
-use Rattle.sota_plan.proofs.FedMore.{fed-to-fits, fed-to-more}
-use Rattle.sota_plan.proofs.feeding.feed_ones.Goals as goal
+use Rattle.sota_fill.proofs.FedTo.{fed-to-fits, fed-to-more}
+use Rattle.sota_fill.proofs.feed.feed_ones.Goals as goal
 
 pub loop-fed-preserved : goal.loop-fed-preserved
 loop-fed-preserved g c =
