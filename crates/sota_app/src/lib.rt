@@ -20,10 +20,3 @@ mod words;
 
 pub use status::Status;
 pub use top::run;
-
-#[cfg(test)]
-mod test_files;
-#[cfg(test)]
-mod test_runs;
-#[cfg(test)]
-mod tests;

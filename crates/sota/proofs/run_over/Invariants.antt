@@ -1,4 +1,4 @@
-use Rattle.sota_app.proofs.tests.run_line.Given as goal
+use Rattle.sota.proofs.run_over.Given as goal
 
 -- the counter's ledger is that of the blank
 abbrev pub ghosts-run_counted : goal.ghosts-run_counted

@@ -37,8 +37,17 @@ const TIGHT_POLICY: &[u8] = b"SOTAPOL1\0\0\0\x02\0\0\0\x02\0\0\0\x01\0\0\0\x04\0
 
 const STUCK_POLICY: &[u8] = b"SOTAPOL1\0\0\0\x02\0\0\0\x02\0\0\0\x01\0\0\0\x04\0\0\0\x01\0\0\0\0";
 
+/// Two roads in a row that take each tick from 1 to 33 with the same mass.
+const EVEN_TIMES: &[u8] = b"\
+arc,tick,mass/33\n1,1,1\n1,2,1\n1,3,1\n1,4,1\n1,5,1\n1,6,1\n1,7,1\n1,8,1\n1,9,1\n1,10,1\n\
+1,11,1\n1,12,1\n1,13,1\n1,14,1\n1,15,1\n1,16,1\n1,17,1\n1,18,1\n1,19,1\n1,20,1\n1,21,1\n\
+1,22,1\n1,23,1\n1,24,1\n1,25,1\n1,26,1\n1,27,1\n1,28,1\n1,29,1\n1,30,1\n1,31,1\n1,32,1\n\
+1,33,1\n2,1,1\n2,2,1\n2,3,1\n2,4,1\n2,5,1\n2,6,1\n2,7,1\n2,8,1\n2,9,1\n2,10,1\n2,11,1\n\
+2,12,1\n2,13,1\n2,14,1\n2,15,1\n2,16,1\n2,17,1\n2,18,1\n2,19,1\n2,20,1\n2,21,1\n2,22,1\n\
+2,23,1\n2,24,1\n2,25,1\n2,26,1\n2,27,1\n2,28,1\n2,29,1\n2,30,1\n2,31,1\n2,32,1\n2,33,1\n";
+
 /// Each by its name.
-pub(crate) const FILES: [(&str, &[u8]); 61] = [
+pub(crate) const FILES: [(&str, &[u8]); 62] = [
     // Graphs.
     ("triangle", TRIANGLE),
     ("road", b"p sp 2 1\na 1 2 5\n"),
@@ -73,6 +82,7 @@ pub(crate) const FILES: [(&str, &[u8]); 61] = [
     ("late", b"arc,tick,mass/4\n1,5,3"),
     ("thirds", b"arc,tick,mass/3\n1,1,1\n1,9,2\n2,9,2\n2,1,1\n"),
     ("four", b"arc,tick,mass/1\n1,4,1"),
+    ("even", EVEN_TIMES),
     ("marked", b"\xef\xbb\xbfarc,tick,mass/4\n"),
     // Histograms that are refused.
     ("scale", b"arc,tick,mass/1000000001"),
