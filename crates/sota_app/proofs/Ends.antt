@@ -35,7 +35,7 @@ use Rattle.sota_app.specs.declared.status.Status.TheVariants.{Input, Words, Writ
 use Rattle.sota_app.specs.declared.stop.Stop.{Stop}
 use Rattle.sota_app.specs.declared.stop.Stop.TheVariants as stops
 use Rattle.sota_app.proofs.Known.{known_map, of_all}
-use Rattle.sota_app.proofs.Made.{begun_by, none_begun, only_line_ends}
+use Rattle.sota_app.proofs.Made.{begun_by, none_begun, last_ends, only_line_ends}
 
 -- ---- how far it came
 
@@ -272,5 +272,5 @@ pub words_ended : (result : Result Status Stop) (d : DeskState) (s t : SinkState
 words_ended result d s t line is short = record {
   cause = words_cause result d s t line is short;
   begun = of_all d.holds _ (λ files. ends_begun result (only_line refused_words) d d s t
-      (only_line_ends result refused_words d d s t refl (omega arith) line));
+      (last_ends result refused_words d s t line));
 }

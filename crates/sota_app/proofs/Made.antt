@@ -271,6 +271,11 @@ only_line_ends result line d e s t held calm h =
     line_ends result (record { file = None; line = line }) d e s t
     (held ∙ held_nothing d.holds) calm h
 
+-- a line, while the desk stays as it is
+pub last_ends : {A : Type 0} (result : Result A Stop) (line : List ℕ) (d : DeskState)
+    (s t : SinkState) → LineEnds result line s t → Ends result (only_line line) d d s t
+last_ends result line d s t h = only_line_ends result line d d s t refl (omega arith) h
+
 -- the file of one output, stored
 one_held : (file : NamedFile) (line : List ℕ) (held : Option Files)
     → option_map (stored file.name file.bytes) held

@@ -26,8 +26,7 @@ use Rattle.sota_app.specs.declared.status.Status.TheVariants.{Done}
 use Rattle.sota_app.specs.declared.stop.Stop.{Stop}
 use Rattle.sota_app.specs.declared.stop.Stop.TheVariants as stops
 use Rattle.sota_app.specs.declared.reply.Refusal.TheVariants as refusals
-use Rattle.sota_app.proofs.Made.{nothing_made}
-use Rattle.sota_app.proofs.ThreeLines.{last_ends}
+use Rattle.sota_app.proofs.Made.{nothing_made, last_ends}
 
 -- the three lines with an accepted policy
 abbrev pub accepted_plan : Net → Ask → Outcome

@@ -1,5 +1,5 @@
 use Rattle.std.proofs.Common.{rules, ◌≡◌, [], ◌∷◌, List, ℕ, Option, Some, None, Err, refl, sym}
-use Rattle.std.proofs.Common.{subst, arith}
+use Rattle.std.proofs.Common.{subst}
 use Rattle.sota_edge.specs.Desk.{DeskState}
 use Rattle.sota_edge.specs.Sink.{SinkState}
 use Rattle.sota_app.specs.Outputs.{Ends, LineEnds}
@@ -8,7 +8,7 @@ use Rattle.sota_app.specs.declared.reply.NamedFile.{NamedFile}
 use Rattle.sota_app.specs.declared.reply.Reply.{Reply}
 use Rattle.sota_app.specs.declared.stop.Stop.{Stop}
 use Rattle.sota_app.specs.declared.stop.Stop.TheVariants as stops
-use Rattle.sota_app.proofs.Made.{nothing_made, stored_ends, not_stored_ends, only_line_ends}
+use Rattle.sota_app.proofs.Made.{nothing_made, stored_ends, not_stored_ends, last_ends}
 use Rattle.sota_app.proofs.output.make_output.Goals.{in-Some+in_ok-store_file, in_default}
 use Rattle.sota_app.proofs.output.make_output.Goals as goal
 
@@ -47,5 +47,5 @@ returns g c =
           let none : reply_file reply ≡ None = search rules in
           rw w.desk-is (subst (λ (has : Option NamedFile).
           Ends c.write_bytes.result (record { file = has; line = line } ∷ []) d d s t) (sym none)
-          (only_line_ends c.write_bytes.result line d d s t refl (omega arith) wrote))
+          (last_ends c.write_bytes.result line d s t wrote))
     ]

@@ -8,8 +8,8 @@ use Rattle.sota_app.specs.Shown.{made_line}
 use Rattle.sota_app.specs.Outcome.{shown}
 use Rattle.sota_app.specs.declared.stop.Stop.{Stop}
 use Rattle.sota_app.specs.declared.stop.Stop.TheVariants as stops
-use Rattle.sota_app.proofs.Made.{done, stopped_by, nothing_made}
-use Rattle.sota_app.proofs.ThreeLines.{first_stops, then_ends, last_ends}
+use Rattle.sota_app.proofs.Made.{done, stopped_by, nothing_made, last_ends}
+use Rattle.sota_app.proofs.ThreeLines.{first_stops, then_ends}
 use Rattle.sota_app.proofs.showing.write_plan.Goals as goal
 
 pub returns-in_err-again-clause-made : goal.returns-in_err-again-clause-made

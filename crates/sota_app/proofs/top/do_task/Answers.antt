@@ -1,8 +1,8 @@
-use Rattle.std.proofs.Common.{rules, ◌≡◌, refl, arith}
+use Rattle.std.proofs.Common.{rules, ◌≡◌}
 use Rattle.sota_edge.specs.Desk.{DeskState}
 use Rattle.sota_edge.specs.Sink.{SinkState}
 use Rattle.sota_app.specs.declared.inputs.Task.TheVariants as tasks
-use Rattle.sota_app.proofs.Made.{only_line_ends}
+use Rattle.sota_app.proofs.Made.{last_ends}
 use Rattle.sota_app.proofs.top.do_task.Goals as goal
 
 pub returns-in-OverPeriods-clause-made : goal.returns-in-OverPeriods-clause-made
@@ -11,5 +11,4 @@ returns-in-OverPeriods-clause-made g c =
     search rules in
     let d : DeskState = g.D.Desk.state c.args.desk.now in
     let s : SinkState = g.O.Sink.state c.args.out.now in
-    rw is (only_line_ends c.answer_timed.result _ d d s _ refl (omega arith)
-    c.answer_timed.ensures.line)
+    rw is (last_ends c.answer_timed.result _ d s _ c.answer_timed.ensures.line)
