@@ -10,7 +10,7 @@ ghost use Rattle.sota_app.specs.Verdicts.{bracket_verdict_line};
 ghost use Rattle.sota_app.specs.Verdicts.{trips_line, verdict_line, replay_line, verdict_status};
 
 use crate::line::LineOut;
-use crate::output::write_line;
+use crate::output::write_last;
 use crate::status::Status;
 use crate::stop::Stop;
 use crate::words::Trips;
@@ -37,11 +37,8 @@ pub fn check_policy<O: Sink>(
         status ≡ verdict_status (rejection network.now table.now)) }
 {
     match check(network, table) {
-        Ok(certified) => {
-            write_line(&accepted_text(alloc, &certified)?, out)?;
-            Ok(Status::Done)
-        }
-        Err(cause) => reject(alloc, cause, out),
+        Ok(certified) => write_last(&accepted_text(alloc, &certified)?, Status::Done, out),
+        Err(cause) => write_last(&rejected_text(alloc, cause)?, Status::SomeRefused, out),
     }
 }
 
@@ -62,14 +59,12 @@ pub fn judge_bracket<O: Sink>(
     // A check knows what holds of every bracket once this one is read.
     prove!(table.head().nodes >= 1);
     match check_bracket(network, table) {
-        Ok(bracketed) => {
-            write_line(&enclosed_text(alloc, &bracketed)?, out)?;
-            Ok(Status::Done)
-        }
-        Err(cause) => {
-            write_line(&bracket_rejected_text(alloc, cause)?, out)?;
-            Ok(Status::SomeRefused)
-        }
+        Ok(bracketed) => write_last(&enclosed_text(alloc, &bracketed)?, Status::Done, out),
+        Err(cause) => write_last(
+            &bracket_rejected_text(alloc, cause)?,
+            Status::SomeRefused,
+            out,
+        ),
     }
 }
 
@@ -92,20 +87,10 @@ pub fn replay_policy<O: Sink>(
         Ok(_) => {
             let mut words = Words::new(u64::from(asked.seed));
             let tally = trips(network, table, &mut words, asked.count);
-            write_line(&trips_text(alloc, asked.count, &tally)?, out)?;
-            Ok(Status::Done)
+            write_last(&trips_text(alloc, asked.count, &tally)?, Status::Done, out)
         }
-        Err(cause) => reject(alloc, cause, out),
+        Err(cause) => write_last(&rejected_text(alloc, cause)?, Status::SomeRefused, out),
     }
-}
-
-/// Writes the verdict on a policy that is rejected.
-fn reject<O: Sink>(alloc: Global, cause: Rejection, out: &mut O) -> Result<Status, Stop>
-    ensures line { LineEnds result (rejected_line cause) (O.state out.old) (O.state out.new) }
-    ensures status { IfOk result (λ status. status ≡ Status.SomeRefused) }
-{
-    write_line(&rejected_text(alloc, cause)?, out)?;
-    Ok(Status::SomeRefused)
 }
 
 /// The line `accepted O D T LOWER`.

@@ -4,6 +4,7 @@ ghost use Rattle.sota_app.specs.Outputs.{Ends, FileEnds, LineEnds};
 ghost use Rattle.sota_app.specs.Replies.{outputs_of, reply_output, some_refused};
 
 use crate::reply::{NamedFile, Reply};
+use crate::status::Status;
 use crate::stop::Stop;
 use crate::voice::Voice;
 use sota_edge::{Desk, Sink, put_all};
@@ -23,6 +24,15 @@ pub fn write_line<O: Sink>(line: &TextOut, out: &mut O) -> Result<(), Stop>
     ensures { LineEnds result line.now (O.state out.old) (O.state out.new) }
 {
     write_bytes(line.as_bytes(), out)
+}
+
+/// Writes the last line of a call, which ends with this status.
+pub fn write_last<O: Sink>(line: &TextOut, status: Status, out: &mut O) -> Result<Status, Stop>
+    ensures line { LineEnds result line.now (O.state out.old) (O.state out.new) }
+    ensures status { IfOk result (λ given. given ≡ status) }
+{
+    write_line(line, out)?;
+    Ok(status)
 }
 
 /// Writes the bytes of a line.

@@ -6,7 +6,7 @@ ghost use Rattle.sota_app.specs.TimedLines.{timed_line, untimed_line, planned, p
 ghost use Rattle.sota_app.specs.TimedLines.{planned_status};
 
 use crate::line::LineOut;
-use crate::output::write_line;
+use crate::output::write_last;
 use crate::status::Status;
 use crate::stop::Stop;
 use crate::words::TimedAsk;
@@ -68,8 +68,7 @@ fn write_timed<O: Sink>(
         (O.state out.old) (O.state out.new) }
     ensures status { IfOk result (λ status. status ≡ Status.Done) }
 {
-    write_line(&timed_text(alloc, asked, answer)?, out)?;
-    Ok(Status::Done)
+    write_last(&timed_text(alloc, asked, answer)?, Status::Done, out)
 }
 
 /// Writes why the ask is refused.
@@ -77,8 +76,7 @@ fn refuse_timed<O: Sink>(alloc: Global, fault: TimedFault, out: &mut O) -> Resul
     ensures line { LineEnds result (untimed_line fault) (O.state out.old) (O.state out.new) }
     ensures status { IfOk result (λ status. status ≡ Status.SomeRefused) }
 {
-    write_line(&untimed_text(alloc, fault)?, out)?;
-    Ok(Status::SomeRefused)
+    write_last(&untimed_text(alloc, fault)?, Status::SomeRefused, out)
 }
 
 /// The line `timed O D T A LOWER UPPER ARC`.

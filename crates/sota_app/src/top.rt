@@ -29,7 +29,7 @@ use crate::checking::{check_policy, judge_bracket, replay_policy};
 use crate::input::NoInput;
 use crate::inputs::{Job, Task, load_task};
 use crate::laws::{answers_are_meant, requests_have_networks};
-use crate::output::write_line;
+use crate::output::write_last;
 use crate::player::play_lines;
 use crate::showing::show_plan;
 use crate::status::Status;
@@ -66,10 +66,7 @@ fn refuse_input<O: Sink>(alloc: Global, end: NoInput, out: &mut O) -> Result<Sta
     ensures { NoInputWritten end result (O.state out.old) (O.state out.new) }
 {
     match end {
-        NoInput::Fault(fault) => {
-            write_line(&fault.line(alloc)?, out)?;
-            Ok(Status::Input)
-        }
+        NoInput::Fault(fault) => write_last(&fault.line(alloc)?, Status::Input, out),
         NoInput::Unread => Ok(Status::ReadFault),
         NoInput::NoMemory => Ok(Status::NoMemory),
     }
