@@ -5,6 +5,7 @@ ghost use Rattle.sota_app.specs.Replies.{answer_line, edited_line};
 ghost use Rattle.sota_app.specs.Replies.{closed_line, stored_line, route_line, refused_line};
 ghost use Rattle.sota_app.specs.Replies.{allowance_line};
 ghost use Rattle.sota_app.specs.Replies.{reply_line, report_of, reply_file, is_refusal};
+ghost use Rattle.sota_app.specs.declared.reply.Refusal.TheVariants as refusals;
 ghost use Rattle.sota_app.specs.declared.reply.Reply.TheVariants.{Answered, Routed, Allowed};
 
 use crate::line::LineOut;
@@ -81,9 +82,7 @@ pub enum Refusal {
 }
 
 impl From<LineFault> for Refusal {
-    ghost use Rattle.sota_app.specs.declared.reply.Refusal.TheVariants.{Line as OfLine};
-
-    ghost from_gives = { λ fault refusal. refusal ≡ OfLine fault };
+    ghost from_gives = { λ fault refusal. refusal ≡ refusals.Line fault };
 
     fn from(fault: LineFault) -> Self {
         Refusal::Line(fault)
@@ -91,9 +90,7 @@ impl From<LineFault> for Refusal {
 }
 
 impl From<HistFault> for Refusal {
-    ghost use Rattle.sota_app.specs.declared.reply.Refusal.TheVariants.{Time as OfTime};
-
-    ghost from_gives = { λ fault refusal. refusal ≡ OfTime fault };
+    ghost from_gives = { λ fault refusal. refusal ≡ refusals.Time fault };
 
     fn from(fault: HistFault) -> Self {
         Refusal::Time(fault)
@@ -101,9 +98,7 @@ impl From<HistFault> for Refusal {
 }
 
 impl From<EditFault> for Refusal {
-    ghost use Rattle.sota_app.specs.declared.reply.Refusal.TheVariants.{Edit as OfEdit};
-
-    ghost from_gives = { λ fault refusal. refusal ≡ OfEdit fault };
+    ghost from_gives = { λ fault refusal. refusal ≡ refusals.Edit fault };
 
     fn from(fault: EditFault) -> Self {
         Refusal::Edit(fault)
@@ -111,9 +106,7 @@ impl From<EditFault> for Refusal {
 }
 
 impl From<AskFault> for Refusal {
-    ghost use Rattle.sota_app.specs.declared.reply.Refusal.TheVariants.{Ask as OfAsk};
-
-    ghost from_gives = { λ fault refusal. refusal ≡ OfAsk fault };
+    ghost from_gives = { λ fault refusal. refusal ≡ refusals.Ask fault };
 
     fn from(fault: AskFault) -> Self {
         Refusal::Ask(fault)
@@ -121,9 +114,7 @@ impl From<AskFault> for Refusal {
 }
 
 impl From<RouteFault> for Refusal {
-    ghost use Rattle.sota_app.specs.declared.reply.Refusal.TheVariants.{Route as OfRoute};
-
-    ghost from_gives = { λ fault refusal. refusal ≡ OfRoute fault };
+    ghost from_gives = { λ fault refusal. refusal ≡ refusals.Route fault };
 
     fn from(fault: RouteFault) -> Self {
         Refusal::Route(fault)
@@ -131,9 +122,7 @@ impl From<RouteFault> for Refusal {
 }
 
 impl From<NeedFault> for Refusal {
-    ghost use Rattle.sota_app.specs.declared.reply.Refusal.TheVariants.{Need as OfNeed};
-
-    ghost from_gives = { λ fault refusal. refusal ≡ OfNeed fault };
+    ghost from_gives = { λ fault refusal. refusal ≡ refusals.Need fault };
 
     fn from(fault: NeedFault) -> Self {
         Refusal::Need(fault)
@@ -141,9 +130,7 @@ impl From<NeedFault> for Refusal {
 }
 
 impl From<ResolveFault> for Refusal {
-    ghost use Rattle.sota_app.specs.declared.reply.Refusal.TheVariants.{Name as OfName};
-
-    ghost from_gives = { λ fault refusal. refusal ≡ OfName fault };
+    ghost from_gives = { λ fault refusal. refusal ≡ refusals.Name fault };
 
     fn from(fault: ResolveFault) -> Self {
         Refusal::Name(fault)
