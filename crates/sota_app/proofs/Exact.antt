@@ -8,9 +8,9 @@ use Rattle.sota_edge.specs.Sink.{SinkState, Wrote}
 use Rattle.sota_edge.specs.Counts.{Rose}
 use Rattle.sota_network.specs.Network.{Net}
 use Rattle.sota_app.specs.Requests.{FileRequest, ReportRequest, TimedRequest}
-use Rattle.sota_app.specs.Outcome.{outcome_of, no_input, refused_words, graph_of, is_dash}
+use Rattle.sota_app.specs.Outcome.{outcome_of, no_input, refused_words, graph_named, is_dash}
 use Rattle.sota_app.specs.Outcome.{with_hists, names_of, periods_after, all_periods, Work}
-use Rattle.sota_app.specs.Outcome.{network_of, script_of, table_of, any_table_of, work_of, work_outcome}
+use Rattle.sota_app.specs.Outcome.{network_of, script_of, table_named, any_table_named, work_of, work_outcome}
 use Rattle.sota_app.specs.Causes.{Cause, Delivered, NoFault, Unread, UnreadNetwork, UnreadLast}
 use Rattle.sota_app.specs.Causes.{UnreadReport, UnreadPeriods, UnreadTimed, UnreadInput}
 use Rattle.sota_dimacs.specs.declared.graph.RawGraph.{RawGraph}
@@ -53,7 +53,7 @@ unread_network graph hists files d e tells calm h = elim h [
   | inr after ↦
       let gone : files hists ≡ None = unread_gone hists files d e tells calm after.1.1 in
       let word : is_dash hists ≡ false = after.1.0 in
-      err_after (graph_of graph files) (with_hists hists files) ends.Unread
+      err_after (graph_named graph files) (with_hists hists files) ends.Unread
       (at_files d.holds files _ tells after.0) (λ value. rw word (rw gone refl))
 ]
 
@@ -118,7 +118,7 @@ ok_next read value next is ok = let at = rw is at ok in at
 
 unread_periods : (name : List ℕ) (graph : RawGraph) (ps : List (ℕ × List ℕ))
     (known : List (ℕ × Net)) (files : Files) (d e : DeskState) → d.holds ≡ Some files
-    → (Rose d.load_faults e.load_faults → ⊥) → graph_of name files ≡ Ok graph
+    → (Rose d.load_faults e.load_faults → ⊥) → graph_named name files ≡ Ok graph
     → UnreadPeriods (network_of name) ps d e
     → periods_after graph files known ps ≡ Err ends.Unread
 unread_periods name graph [] known files d e tells calm is h = absurd h
@@ -129,7 +129,7 @@ unread_periods name graph (p ∷ ps) known files d e tells calm is h = elim h [
       rw word (rw gone refl)
   | inr after ↦
       err_after (with_hists p.1 files graph) _ ends.Unread
-      (ok_next (graph_of name files) graph (with_hists p.1 files) is
+      (ok_next (graph_named name files) graph (with_hists p.1 files) is
       (at_files d.holds files _ tells after.0))
       (λ net. unread_periods name graph ps (known ++ (p.0, net) ∷ []) files d e tells calm is
       after.1)
@@ -143,8 +143,8 @@ unread_timed words files d e tells calm h = elim h [
       let gone : files words.graph ≡ None =
       unread_gone words.graph files d e tells calm graph in rw gone refl
   | inr after ↦
-      let read : IsRead (graph_of words.graph files) =
-      is_read (graph_of words.graph files) (at_files d.holds files _ tells after.0) in
+      let read : IsRead (graph_named words.graph files) =
+      is_read (graph_named words.graph files) (at_files d.holds files _ tells after.0) in
       let none : periods_after read.value files [] (all_periods words) ≡ Err ends.Unread =
       unread_periods words.graph read.value (all_periods words) [] files d e tells calm read.is
       after.1 in
@@ -160,10 +160,10 @@ unread_work (requests.Run run) files d e tells calm h =
     unread_last run (script_of run.file files) _ files d e tells calm
     (λ (none : files run.file ≡ None). rw none refl) h
 unread_work (requests.Check check) files d e tells calm h =
-    unread_last check (any_table_of check.file files) _ files d e tells calm
+    unread_last check (any_table_named check.file files) _ files d e tells calm
     (λ (none : files check.file ≡ None). rw none refl) h
 unread_work (requests.Replay words) files d e tells calm h =
-    unread_last words.names (table_of words.names.file files) _ files d e tells calm
+    unread_last words.names (table_named words.names.file files) _ files d e tells calm
     (λ (none : files words.names.file ≡ None). rw none refl) h
 unread_work (requests.Report words) files d e tells calm h =
     unread_report words files d e tells calm h

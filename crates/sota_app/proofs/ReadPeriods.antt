@@ -7,7 +7,7 @@ use Rattle.sota_edge.specs.Counts.{Rose}
 use Rattle.sota_edge.specs.Desk.{Files, DeskState}
 use Rattle.sota_dimacs.specs.declared.graph.RawGraph.{RawGraph}
 use Rattle.sota_network.specs.Network.{Net}
-use Rattle.sota_app.specs.Outcome.{graph_of, with_hists, network_of, periods_after, periods_of}
+use Rattle.sota_app.specs.Outcome.{graph_named, with_hists, network_of, periods_after, periods_of}
 use Rattle.sota_app.specs.Outcome.{all_periods, one_scale}
 use Rattle.sota_app.specs.Requests.{TimedRequest}
 use Rattle.sota_app.specs.Causes.{UnreadTimed}
@@ -121,7 +121,7 @@ ok_over read value next is ok = rw is ok
 
 -- the same where the graph is what the files mean
 pub periods_over : (name : List ℕ) (graph : RawGraph) (ps : List (ℕ × List ℕ)) (d n : DeskState)
-    → Known d (λ files. graph_of name files ≡ Ok graph)
+    → Known d (λ files. graph_named name files ≡ Ok graph)
     → UnreadPeriods (λ hists files. with_hists hists files graph) ps d n
     → UnreadPeriods (network_of name) ps d n
 periods_over name graph [] d n known h = absurd h
@@ -129,7 +129,7 @@ periods_over name graph (p ∷ ps) d n known h = elim h [
   | inl hists ↦ inl hists
   | inr after ↦ inr (
     known_both d.holds _ _ _
-        (λ files is ok. ok_over (graph_of name files) graph (with_hists p.1 files) is ok) known
+        (λ files is ok. ok_over (graph_named name files) graph (with_hists p.1 files) is ok) known
         after.0,
     periods_over name graph ps d n known after.1,
   )
@@ -197,7 +197,7 @@ pub timed_unread : {T C : Type 0} (of : T → List (ℕ × Net)) (view : C → L
     (end : NoInput) (read : Result T NoInput) (result : Result C NoInput) (words : TimedRequest)
     (graph : RawGraph) (known : List (ℕ × Net)) (d m n : DeskState) → known ≡ []
     → read ≡ Err end → result ≡ Err end → OnlyTook d m
-    → Known d (λ files. graph_of words.graph files ≡ Ok graph)
+    → Known d (λ files. graph_named words.graph files ≡ Ok graph)
     → InputAnswers of read (λ files. periods_after graph files known (all_periods words))
     (UnreadPeriods (nets_over graph) (all_periods words)) m n
     → InputAnswers view result (periods_of words) (UnreadTimed words) d n
@@ -205,11 +205,11 @@ timed_unread {T} {C} of view end read result words graph known d m n none read_i
     h =
     subst (λ (made : Result C NoInput).
     InputAnswers view made (periods_of words) (UnreadTimed words) d n) (sym result_is)
-    (then_read view (Err end) (graph_of words.graph) graph
+    (then_read view (Err end) (graph_named words.graph) graph
     (λ files graph. periods_after graph files [] (all_periods words) >>= one_scale)
     (UnreadTimed words) (UnreadPeriods (nets_over graph) (all_periods words)) d m n took is
     (λ missed. inr (
-      read_ok (graph_of words.graph) graph d is,
+      read_ok (graph_named words.graph) graph d is,
       periods_over words.graph graph (all_periods words) d n is
           (periods_before (nets_over graph) (all_periods words) d m n took missed),
     ))

@@ -8,7 +8,7 @@ use Rattle.sota_dimacs.specs.declared.graph.RawGraph.{RawGraph}
 use Rattle.sota_network.specs.Network.{Net, IsNet}
 use Rattle.sota_histcsv.specs.Certain.{certain_net}
 use Rattle.sota_histcsv.specs.Histograms.{hist_net}
-use Rattle.sota_app.specs.Outcome.{or_input_fault, input_bytes, read_graph, graph_of, certain_hists}
+use Rattle.sota_app.specs.Outcome.{or_input_fault, input_bytes, read_graph, graph_named, certain_hists}
 use Rattle.sota_make.specs.Made.{is_size, made}
 use Rattle.sota_app.specs.Requests.{FileRequest}
 use Rattle.sota_app.specs.Words.{IsSized}
@@ -18,7 +18,7 @@ use Rattle.sota_app.specs.Outcome.{names_of, periods_after, periods_of, unless_d
 use Rattle.sota_app.specs.Outcome.{all_periods}
 use Rattle.sota_app.specs.Requests.{TimedRequest}
 use Rattle.sota_period.specs.Periods.{first_net, scale_differs}
-use Rattle.sota_app.specs.Outcome.{table_of, any_table_of, Job, play, judge_any, replay}
+use Rattle.sota_app.specs.Outcome.{table_named, any_table_named, Job, play, judge_any, replay}
 use Rattle.sota_app.specs.Outcome.{Work, work_of}
 use Rattle.sota_app.specs.declared.voice.Voice.TheVariants.{Plain}
 use Rattle.sota_app.specs.declared.input.Input.TheVariants as inputs
@@ -60,7 +60,7 @@ followed (Ok first) next value e = record { first = first; first_is = refl; next
 followed (Err end) next value e = absurd (cc)
 
 graph_valid : Graphs → (name : List ℕ) (files : Files) (graph : RawGraph)
-    → graph_of name files ≡ Ok graph → IsGraph graph
+    → graph_named name files ≡ Ok graph → IsGraph graph
 graph_valid graphs name files graph e =
     let h = followed (input_bytes inputs.Graph (files name)) read_graph graph e in
     graphs h.first graph (was_ok _ (graph_text h.first) graph h.next_is)
@@ -79,7 +79,7 @@ hists_by texts weights false name files graph net valid e =
 network_valid : Graphs → Texts → Weights → (graph hists : List ℕ) (files : Files) (net : Net)
     → network_of graph hists files ≡ Ok net → IsNet net
 network_valid graphs texts weights graph hists files net e =
-    let h = followed (graph_of graph files) (with_hists hists files) net e in
+    let h = followed (graph_named graph files) (with_hists hists files) net e in
     hists_by texts weights (is_dash hists) hists files h.first net
     (graph_valid graphs graph files h.first h.first_is) h.next_is
 
@@ -117,7 +117,7 @@ was_joined None given periods e = cc
 was_joined (Some place) given periods e = absurd (cc)
 
 network_is : (graph hists : List ℕ) (files : Files) (raw : RawGraph) (net : Net)
-    → graph_of graph files ≡ Ok raw → with_hists hists files raw ≡ Ok net
+    → graph_named graph files ≡ Ok raw → with_hists hists files raw ≡ Ok net
     → network_of graph hists files ≡ Ok net
 network_is graph hists files raw net first second = rw first second
 
@@ -125,7 +125,7 @@ network_is graph hists files raw net first second = rw first second
 first_valid : Graphs → Texts → Weights → (words : TimedRequest) (files : Files)
     (periods : List (ℕ × Net)) → periods_of words files ≡ Ok periods → IsNet (first_net periods)
 first_valid graphs texts weights words files periods e =
-    let g = followed (graph_of words.graph files) _ periods e in
+    let g = followed (graph_named words.graph files) _ periods e in
     let h = followed (periods_after g.first files [] (all_periods words)) one_scale periods
     g.next_is in
     let k = followed (with_hists words.hists files g.first) _ h.first h.first_is in
@@ -147,9 +147,9 @@ work_valid graphs texts weights makes (requests.Run run) sized files work e =
     named_valid graphs texts weights run files (script_of run.file files)
     (λ script. play Plain (script_lines Plain script)) work e
 work_valid graphs texts weights makes (requests.Check check) sized files work e =
-    named_valid graphs texts weights check files (any_table_of check.file files) judge_any work e
+    named_valid graphs texts weights check files (any_table_named check.file files) judge_any work e
 work_valid graphs texts weights makes (requests.Replay words) sized files work e =
-    named_valid graphs texts weights words.names files (table_of words.names.file files)
+    named_valid graphs texts weights words.names files (table_named words.names.file files)
     (λ table. replay table words.trips) work e
 work_valid graphs texts weights makes (requests.Report words) sized files work e =
     let h = followed (network_of words.graph words.hists files) _ work e in

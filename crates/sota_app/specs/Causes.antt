@@ -14,7 +14,7 @@ use Rattle.sota_report.specs.Words as names
 use Rattle.sota_units.specs.Memory.{◌>>=◌}
 use Rattle.sota_app.specs.Outputs.{Made, Begun, StoreMissed}
 use Rattle.sota_app.specs.Outcome.{Outcome, outcome_of, refused_words}
-use Rattle.sota_app.specs.Outcome.{graph_of, network_of, names_of, is_dash, all_periods}
+use Rattle.sota_app.specs.Outcome.{graph_named, network_of, names_of, is_dash, all_periods}
 use Rattle.sota_app.specs.Requests.{FileRequest, ReportRequest, TimedRequest}
 use Rattle.sota_app.specs.InputFaults.{fault_place, fault_line}
 use Rattle.sota_app.specs.declared.input.InputFault.{InputFault}
@@ -52,7 +52,7 @@ UnreadHists name old new = (is_dash name ≡ false) × Unread name old new
 -- an input of a network could not be read, all inputs before it being accepted
 abbrev pub UnreadNetwork : List ℕ → List ℕ → DeskState → DeskState → Type 0
 UnreadNetwork graph hists old new =
-    Unread graph old new ⊎ (Accepted (graph_of graph) old × UnreadHists hists old new)
+    Unread graph old new ⊎ (Accepted (graph_named graph) old × UnreadHists hists old new)
 
 -- an input of a network, or the one after them
 abbrev pub UnreadLast : FileRequest → DeskState → DeskState → Type 0
@@ -83,7 +83,7 @@ UnreadPeriods network (p ∷ ps) old new =
 abbrev pub UnreadTimed : TimedRequest → DeskState → DeskState → Type 0
 UnreadTimed words old new =
     Unread words.graph old new
-    ⊎ (Accepted (graph_of words.graph) old
+    ⊎ (Accepted (graph_named words.graph) old
     × UnreadPeriods (network_of words.graph) (all_periods words) old new)
 
 -- an input of the request

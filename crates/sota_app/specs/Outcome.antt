@@ -68,8 +68,8 @@ input_bytes input (Some bytes) =
 abbrev pub read_graph : List ℕ → Result RawGraph NoInput
 read_graph bytes = or_input_fault (λ fault. faults.Graph fault) (graph_text bytes)
 
-abbrev pub graph_of : List ℕ → Files → Result RawGraph NoInput
-graph_of name files = input_bytes inputs.Graph (files name) >>= read_graph
+abbrev pub graph_named : List ℕ → Files → Result RawGraph NoInput
+graph_named name files = input_bytes inputs.Graph (files name) >>= read_graph
 
 -- without a file of histograms each arc takes its weight
 abbrev pub certain_hists : RawGraph → Result Net NoInput
@@ -89,7 +89,7 @@ with_hists name files graph =
 
 -- the network of a graph file and a word for histograms
 abbrev pub network_of : List ℕ → List ℕ → Files → Result Net NoInput
-network_of graph hists files = graph_of graph files >>= with_hists hists files
+network_of graph hists files = graph_named graph files >>= with_hists hists files
 
 -- every text within the limit is a script
 abbrev pub script_of : List ℕ → Files → Result (List ℕ) NoInput
@@ -99,15 +99,15 @@ script_of name files = input_bytes inputs.Script (files name)
 abbrev pub read_any_table : List ℕ → Result AnyTable NoInput
 read_any_table bytes = or_input_fault (λ fault. faults.Policy fault) (any_of bytes)
 
-abbrev pub any_table_of : List ℕ → Files → Result AnyTable NoInput
-any_table_of name files = input_bytes inputs.Policy (files name) >>= read_any_table
+abbrev pub any_table_named : List ℕ → Files → Result AnyTable NoInput
+any_table_named name files = input_bytes inputs.Policy (files name) >>= read_any_table
 
 -- of version 1
 abbrev pub read_table : List ℕ → Result Table NoInput
 read_table bytes = or_input_fault (λ fault. faults.Policy fault) (policy_of bytes)
 
-abbrev pub table_of : List ℕ → Files → Result Table NoInput
-table_of name files = input_bytes inputs.Policy (files name) >>= read_table
+abbrev pub table_named : List ℕ → Files → Result Table NoInput
+table_named name files = input_bytes inputs.Policy (files name) >>= read_table
 
 -- the names of places for a network
 abbrev pub read_names : Net → List ℕ → Result (List Place) NoInput
@@ -138,7 +138,7 @@ all_periods words = (0, words.hists) ∷ words.later
 
 abbrev pub periods_of : TimedRequest → Files → Result (List (ℕ × Net)) NoInput
 periods_of words files = do
-  graph ← graph_of words.graph files
+  graph ← graph_named words.graph files
   periods ← periods_after graph files [] (all_periods words)
   one_scale periods
 
@@ -176,11 +176,11 @@ work_of (requests.Run run) files = do
   Ok (record { net = net; job = play voices.Plain (script_lines voices.Plain script) })
 work_of (requests.Check check) files = do
   net ← network_of check.graph check.hists files
-  table ← any_table_of check.file files
+  table ← any_table_named check.file files
   Ok (record { net = net; job = judge_any table })
 work_of (requests.Replay words) files = do
   net ← network_of words.names.graph words.names.hists files
-  table ← table_of words.names.file files
+  table ← table_named words.names.file files
   Ok (record { net = net; job = replay table words.trips })
 work_of (requests.Report words) files = do
   net ← network_of words.graph words.hists files
@@ -222,8 +222,8 @@ bracket_judged net table = record {
 }
 
 -- the tally of trips, where the policy is not rejected
-abbrev pub replayed : Net → Table → Trips → Outcome
-replayed net table trips = record {
+abbrev pub trips_outcome : Net → Table → Trips → Outcome
+trips_outcome net table trips = record {
   outputs = only_line (replay_line net table trips (rejection net table));
   status = verdict_status (rejection net table);
 }
@@ -256,7 +256,7 @@ abbrev pub job_outcome : Net → Job → Outcome
 job_outcome net (play voice lines) = replied voice (replies_to net lines)
 job_outcome net (judge table) = judged net table
 job_outcome net (judge_bracket table) = bracket_judged net table
-job_outcome net (replay table trips) = replayed net table trips
+job_outcome net (replay table trips) = trips_outcome net table trips
 job_outcome net (show ask) = shown net (session_ask ask)
 job_outcome net (timed periods asked) = timed_outcome periods asked
 

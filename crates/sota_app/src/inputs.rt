@@ -5,9 +5,9 @@ ghost use Rattle.sota_dimacs.specs.Graph.{IsGraph};
 ghost use Rattle.sota_units.specs.Limits.{TEXT_LIMIT};
 ghost use Rattle.sota_polfile.specs.Limits.{POLICY_LIMIT};
 ghost use Rattle.sota_app.specs.InputFaults.{input_limit};
-ghost use Rattle.sota_app.specs.Outcome.{input_bytes, read_graph, graph_of};
+ghost use Rattle.sota_app.specs.Outcome.{input_bytes, read_graph, graph_named};
 ghost use Rattle.sota_app.specs.Outcome.{certain_hists, read_hists, with_hists, network_of};
-ghost use Rattle.sota_app.specs.Outcome.{read_table, table_of, read_any_table, any_table_of};
+ghost use Rattle.sota_app.specs.Outcome.{read_table, table_named, read_any_table, any_table_named};
 ghost use Rattle.sota_app.specs.Outcome.{judge_any, read_names, names_of, work_of};
 ghost use Rattle.sota_app.specs.Causes.{Unread, UnreadHists, UnreadNetwork, UnreadReport};
 ghost use Rattle.sota_app.specs.Causes.{UnreadInput};
@@ -110,7 +110,7 @@ fn parse_graph(alloc: Global, bytes: &[u8]) -> Result<RawGraph, NoInput>
 
 /// The graph that the file of this name holds.
 pub fn load_graph<D: Desk>(alloc: Global, name: &str, desk: &mut D) -> Result<RawGraph, NoInput>
-    ensures read { InputAnswers (λ graph. graph) result (graph_of name.now) (Unread name.now)
+    ensures read { InputAnswers (λ graph. graph) result (graph_named name.now) (Unread name.now)
         (D.state desk.old) (D.state desk.new) }
     ensures valid { IfOk result (λ graph. IsGraph graph) }
 {
@@ -194,7 +194,7 @@ fn parse_any(alloc: Global, bytes: &[u8]) -> Result<AnyTable, NoInput>
 
 /// The table of either version that the file of this name holds.
 fn load_any<D: Desk>(alloc: Global, name: &str, desk: &mut D) -> Result<AnyTable, NoInput>
-    ensures { InputAnswers (λ table. table) result (any_table_of name.now) (Unread name.now)
+    ensures { InputAnswers (λ table. table) result (any_table_named name.now) (Unread name.now)
         (D.state desk.old) (D.state desk.new) }
 {
     let bytes = load_input(alloc, Input::Policy, name, desk)?;
@@ -226,7 +226,7 @@ fn parse_policy(alloc: Global, bytes: &[u8]) -> Result<PolicyTable, NoInput>
 
 /// The policy of version 1 that the file of this name holds.
 fn load_policy<D: Desk>(alloc: Global, name: &str, desk: &mut D) -> Result<PolicyTable, NoInput>
-    ensures { InputAnswers (λ table. table) result (table_of name.now) (Unread name.now)
+    ensures { InputAnswers (λ table. table) result (table_named name.now) (Unread name.now)
         (D.state desk.old) (D.state desk.new) }
 {
     let bytes = load_input(alloc, Input::Policy, name, desk)?;
