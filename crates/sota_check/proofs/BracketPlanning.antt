@@ -18,7 +18,7 @@ use Rattle.sota_polfile.specs.declared.head.PolicyHead.{PolicyHead}
 use Rattle.sota_check.specs.Bracketed.{lower_entry, lower_entries, lower, first_at, upper, IsBracketed}
 use Rattle.sota_check.specs.Planned.{grid_entry, entry_if, IsPlannedBy}
 use Rattle.sota_check.specs.PlannedBracket.{grid_bracket, first_budget_by, IsPlannedBracket}
-use Rattle.sota_check.specs.Laws.{IsGrid}
+use Rattle.sota_check.specs.Laws.{GridLaws}
 use Rattle.sota_check.proofs.Planning.{plan-holds, plan-bound, region-parts, origin-inside}
 use Rattle.sota_check.proofs.Standing.{row-there, row-valid, first-is, upper-is, upper-below, upper-dest, entry-upper}
 
@@ -30,7 +30,7 @@ pub record IsUpperGrid (net : Net) (dest : ℕ) : Type 0 where
   pub outward : (x : ℕ) → x ≤ ceiling_by net.scale x * net.scale
   pub greatest : (worth : Arc → ℕ) (e : ℕ) (arc : Arc) → arc_at net e ≡ Some arc → worth arc ≤ best_of net.arcs worth arc.tail
 
-module _ (net : Net) (origin dest last : ℕ) (table : Bracket) (valid : IsNet net) (arcs : (e : ℕ) (arc : Arc) → arc_at net e ≡ Some arc → IsArc net arc) (grid : IsGrid net origin dest last) (above : IsUpperGrid net dest) (is : IsBracket table) (planned : IsPlannedBracket net origin dest last table) where
+module _ (net : Net) (origin dest last : ℕ) (table : Bracket) (valid : IsNet net) (arcs : (e : ℕ) (arc : Arc) → arc_at net e ≡ Some arc → IsArc net arc) (grid : GridLaws net origin dest last) (above : IsUpperGrid net dest) (is : IsBracket table) (planned : IsPlannedBracket net origin dest last table) where
   dest-is : table.head.dest ≡ dest
   dest-is = ap (λ (h : PolicyHead). h.dest) planned.head
 

@@ -15,12 +15,12 @@ use Rattle.sota_polfile.specs.declared.row.PolicyRow.{PolicyRow}
 use Rattle.sota_polfile.specs.declared.head.PolicyHead.{PolicyHead}
 use Rattle.sota_polfile.specs.Table.{Table, entry_of}
 use Rattle.sota_check.specs.Certified.{Entries, value_by, HoldsBy, IsCertifiedBy}
-use Rattle.sota_check.specs.Laws.{IsGrid}
+use Rattle.sota_check.specs.Laws.{GridLaws}
 use Rattle.sota_check.specs.Planned.{grid_entry, entry_if, ask_head, IsPlannedBy, IsPlannedPolicy, AreGridRows, IsGridRow, IsPlanFile}
 use Rattle.sota_check.proofs.Judged.{AreEntries, StandInRows}
 use Rattle.sota_check.proofs.Keeping.{value-dest, value-elsewhere}
 
-module _ (net : Net) (origin dest last : ℕ) (head : PolicyHead) (plan : Entries) (grid : IsGrid net origin dest last) (planned : IsPlannedBy net origin dest last head plan) where
+module _ (net : Net) (origin dest last : ℕ) (head : PolicyHead) (plan : Entries) (grid : GridLaws net origin dest last) (planned : IsPlannedBy net origin dest last head plan) where
   abbrev value : ℕ → ℕ → ℕ
   value i t = value_by head.dest plan i t
 

@@ -10,7 +10,7 @@ use Rattle.sota_network.specs.Reads.{Reads}
 use Rattle.sota_network.specs.declared.network.Arc.{Arc}
 
 -- the laws of the lower values and choices, and of the region of an ask
-pub record IsGrid (net : Net) (origin dest last : ℕ) : Type 0 where
+pub record GridLaws (net : Net) (origin dest last : ℕ) : Type 0 where
   pub lower : (i t : ℕ) → lo net dest i t ≡ value_from floor_by net dest (lo net dest) i t
   pub order : (i t : ℕ) → lo net dest i t ≤ hi net dest i t
   pub below : (i t : ℕ) → reaches net dest dest i t ≡ false → hi net dest i t ≡ 0

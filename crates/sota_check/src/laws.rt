@@ -15,7 +15,7 @@ ghost use Rattle.sota_check.specs.Certified.{value, rule, IsCertified};
 ghost use Rattle.sota_check.specs.Rejected.{rejection};
 ghost use Rattle.sota_check.specs.Examples.{triangle_policy};
 ghost use Rattle.sota_check.specs.declared.verdict.Rejection.TheVariants.{Value};
-ghost use Rattle.sota_check.specs.Laws.{IsGrid};
+ghost use Rattle.sota_check.specs.Laws.{GridLaws};
 ghost use Rattle.sota_check.specs.Planned.{IsPlannedPolicy, AreGridRows, IsPlanFile, ask_head};
 
 use sota_network::laws::{
@@ -27,7 +27,7 @@ use sota_polfile::entries_stand_in_rows;
 
 /// The laws of networks that a planner's file rests on.
 fn grid_laws()
-    ensures { (net : Net) (origin dest last : ℕ) → IsNet net → IsGrid net origin dest last }
+    ensures { (net : Net) (origin dest last : ℕ) → IsNet net → GridLaws net origin dest last }
 {
     grid_recurs();
     grid_encloses();

@@ -4,10 +4,10 @@ use Rattle.std.proofs.Math.ListN.{get_or-eq_default}
 use Rattle.std.proofs.lemmas.List.FromFn.{get_or-map-range_with_len, length-map-range_with_len}
 use Rattle.std.proofs.lemmas.Bool.{eq-eqb, ne_eqb, cases_eq, cases_lt}
 use Rattle.sota_block.specs.Product.{sum_below}
-use Rattle.sota_hist.specs.Time.{RisesFrom, IsTime, least_tick, greatest_tick, mass_at}
+use Rattle.sota_hist.specs.Time.{RisesFrom, IsTime, least_tick, greatest_tick, mass_at, span}
 use Rattle.sota_network.specs.Grid.{weighed}
 use Rattle.sota_fill.proofs.PairSums.{weighed-in, weighed-out, mass_at-cons}
-use Rattle.sota_online.specs.Summer.{SummerState, span, kernel_of, plain}
+use Rattle.sota_online.specs.Summer.{SummerState, kernel_of, plain}
 use Rattle.sota_fill.specs.Fed.{IsFed}
 
 -- ---- sums over the numbers below n

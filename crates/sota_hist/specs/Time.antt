@@ -1,5 +1,6 @@
 -- The travel time of an arc: which ticks it may take, and the mass of each.
-use Rattle.std.specs.Prelude.{ℕ, Bool, true, false, ◌<◌, ◌≤◌, ◌==◌, nat_le, nat_lt, not, min, max}
+use Rattle.std.specs.Prelude.{ℕ, Bool, true, false, ◌+◌, ◌-◌, ◌<◌, ◌≤◌, ◌==◌, nat_le, nat_lt, not}
+use Rattle.std.specs.Prelude.{min, max}
 use Rattle.std.specs.Prelude.{List, [], ◌∷◌, ◌++◌, map, Option, None, Some}
 use Rattle.std.specs.Option.{option_map_or}
 use Rattle.std.specs.List.{sum_by, filter}
@@ -31,6 +32,10 @@ least_tick (p ∷ ps) = p.0
 abbrev pub greatest_tick : List (ℕ × ℕ) → ℕ
 greatest_tick [] = 0
 greatest_tick (p ∷ ps) = max p.0 (greatest_tick ps)
+
+-- how many ticks there are from the least to the greatest
+abbrev pub span : List (ℕ × ℕ) → ℕ
+span pairs = greatest_tick pairs - least_tick pairs + 1
 
 -- the ticks, in the order of the pairs
 abbrev pub ticks : List (ℕ × ℕ) → List ℕ

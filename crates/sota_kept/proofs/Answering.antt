@@ -11,7 +11,7 @@ use Rattle.sota_network.specs.Reach.{reaches, in_region}
 use Rattle.sota_network.specs.Region.{need}
 use Rattle.sota_network.specs.declared.network.Arc.{Arc}
 use Rattle.sota_kept.specs.Ticks.{END_LIMIT, least_to}
-use Rattle.sota_kept.specs.NodeTables.{NodeTable, IsSettledAt, IsReadyAt, known_end, choice_at}
+use Rattle.sota_kept.specs.NodeTables.{NodeTable, IsSettledAt, IsReadyAt, known_end, next_of}
 use Rattle.sota_kept.proofs.Counting.{ticks-reach}
 use Rattle.sota_kept.proofs.Preparing.{need-all}
 use Rattle.sota_kept.specs.Laws.{Lawful}
@@ -40,7 +40,7 @@ choice-zero net valid dest i t off none =
     choice-none net dest i t off (omega arith)
 
 -- below the known end the choice is known as well
-pub known-choice : (net : Net) → Lawful net → (dest i : ℕ) (s : NodeTable) → i ≢ dest → IsSettledAt net dest i s → (t : ℕ) → t < known_end s → choice_at s t ≡ choice net dest i t
+pub known-choice : (net : Net) → Lawful net → (dest i : ℕ) (s : NodeTable) → i ≢ dest → IsSettledAt net dest i s → (t : ℕ) → t < known_end s → next_of s t ≡ choice net dest i t
 known-choice net valid dest i s off is t early =
     ⊎_elim
     (λ (low : t < s.base). rw (lt-ltb t s.base low) (sym (choice-zero net valid dest i t off (is.empty t low).1)))

@@ -7,7 +7,7 @@ use Rattle.sota_network.specs.Grid.{lo, hi, choice}
 use Rattle.sota_network.specs.declared.network.Arc.{Arc}
 use Rattle.sota_kept.specs.Ticks.{END_LIMIT, least_to}
 use Rattle.sota_kept.specs.Edits.{first_affected, IsEdit, SameAt}
-use Rattle.sota_kept.specs.NodeTables.{NodeTable, IsKeptAt, IsSettledAt, lower_of, upper_of, choice_at, emptied_table, rebased_table, cut_to}
+use Rattle.sota_kept.specs.NodeTables.{NodeTable, IsKeptAt, IsSettledAt, lower_of, upper_of, next_of, emptied_table, rebased_table, cut_to}
 use Rattle.sota_kept.proofs.Counting.{ticks-most, ticks-least, ticks-reach}
 use Rattle.sota_kept.proofs.Edited.{edit-same, edit-valid}
 use Rattle.sota_kept.specs.Laws.{Lawful}
@@ -127,8 +127,8 @@ cut-right net other dest i front bound s within same least is =
           let kept : upper_of (cut_to front s) t ≡ upper_of s t = rw (le-ltb t s.base low) (cut-at s.upper s.base f t 0 low high) in
           kept ∙ old ∙ sym (same t (omega arith)).upper;
       choice = λ t low high.
-          let old : choice_at s t ≡ choice net dest i t = is.choice t low (omega arith) in
-          let kept : choice_at (cut_to front s) t ≡ choice_at s t = rw (le-ltb t s.base low) (cut-at s.choices s.base f t None low high) in
+          let old : next_of s t ≡ choice net dest i t = is.choice t low (omega arith) in
+          let kept : next_of (cut_to front s) t ≡ next_of s t = rw (le-ltb t s.base low) (cut-at s.choices s.base f t None low high) in
           kept ∙ old ∙ sym (same t (omega arith)).choice;
       below = λ t low.
           let old = is.below t (omega arith) in

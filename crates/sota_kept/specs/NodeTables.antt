@@ -42,8 +42,8 @@ lower_of s t = if nat_lt t s.base then 0 else slice_index s.lower (t - s.base)
 abbrev pub upper_of : NodeTable → ℕ → ℕ
 upper_of s t = if nat_lt t s.base then 0 else slice_index s.upper (t - s.base)
 
-abbrev pub choice_at : NodeTable → ℕ → Option ℕ
-choice_at s t = if nat_lt t s.base then None else slice_index_or s.choices (t - s.base) None
+abbrev pub next_of : NodeTable → ℕ → Option ℕ
+next_of s t = if nat_lt t s.base then None else slice_index_or s.choices (t - s.base) None
 
 -- and at any node: who stands at the destination has arrived
 abbrev pub lower_in : ℕ → (ℕ → NodeTable) → ℕ → ℕ → ℕ
@@ -60,7 +60,7 @@ pub record IsKeptAt (net : Net) (dest i : ℕ) (s : NodeTable) : Type 0 where
   pub shape : IsNodeTable s
   pub lower : (t : ℕ) → s.base ≤ t → t < s.front → lower_of s t ≡ lo net dest i t
   pub upper : (t : ℕ) → s.base ≤ t → t < s.front → upper_of s t ≡ hi net dest i t
-  pub choice : (t : ℕ) → s.base ≤ t → t < s.front → choice_at s t ≡ choice net dest i t
+  pub choice : (t : ℕ) → s.base ≤ t → t < s.front → next_of s t ≡ choice net dest i t
   pub below : (t : ℕ) → t < min s.base s.front → (lo net dest i t ≡ 0) × (hi net dest i t ≡ 0)
   pub least : (s.base ≤ least_to net dest i) ⊎ (s.front ≤ least_to net dest i)
 

@@ -14,7 +14,7 @@ ghost use Rattle.sota_kept.specs.Ticks.{END_LIMIT, least_to};
 ghost use Rattle.sota_kept.specs.Edits.{first_affected, IsEdit};
 ghost use Rattle.sota_kept.specs.NodeTables.{NodeTable, IsKeptAt, IsSettledAt, IsReadyAt, AreReady};
 ghost use Rattle.sota_kept.specs.NodeTables.{IsExtent, IsGrownAt, known_end, lower_of, upper_of};
-ghost use Rattle.sota_kept.specs.NodeTables.{choice_at, lower_in, upper_in, emptied_table, cut_to};
+ghost use Rattle.sota_kept.specs.NodeTables.{next_of, lower_in, upper_in, emptied_table, cut_to};
 ghost use Rattle.sota_kept.specs.NodeTables.{prepared_table, entry_from, push_at, filled_tables};
 ghost use Rattle.sota_kept.specs.States.{State, prepared_state, grown_state, missing, after_edit};
 ghost use Rattle.sota_kept.specs.States.{is_dest, started_state, based_state, cells_kept};
@@ -59,7 +59,7 @@ pub fn settled_entries()
     ensures upper { (net : Net) (dest i t : ℕ) (s : NodeTable) → IsSettledAt net dest i s
         → t < known_end s → upper_of s t ≡ hi net dest i t }
     ensures choice { (net : Net) (dest i t : ℕ) (s : NodeTable) → IsNet net → i ≢ dest
-        → IsSettledAt net dest i s → t < known_end s → choice_at s t ≡ choice net dest i t }
+        → IsSettledAt net dest i s → t < known_end s → next_of s t ≡ choice net dest i t }
 {
     network_laws();
 }

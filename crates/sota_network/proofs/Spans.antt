@@ -2,8 +2,8 @@
 use Rattle.std.proofs.Common.{ℕ, ◌≡◌, ◌+◌, ◌-◌, ◌<◌, ◌≤◌, List, [], ◌∷◌, length, get_or, refl, sym, ◌∙◌, ap, arith, nat_le}
 use Rattle.std.proofs.lemmas.Bool.{lt-ltb, leb-true}
 use Rattle.std.proofs.lemmas.List.Elements.{filter_passes}
-use Rattle.sota_hist.specs.Time.{within, least_tick, greatest_tick}
-use Rattle.sota_network.specs.Region.{NARROW, span, broad_at}
+use Rattle.sota_hist.specs.Time.{within, least_tick, greatest_tick, span}
+use Rattle.sota_network.specs.Region.{NARROW, broad_at}
 use Rattle.sota_network.specs.declared.network.Arc.{Arc}
 
 first-tick : (ps : List (ℕ × ℕ)) (d : ℕ × ℕ) → 1 ≤ length ps → least_tick ps ≡ (get_or ps 0 d).0

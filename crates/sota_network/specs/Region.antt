@@ -2,7 +2,7 @@
 use Rattle.std.specs.Prelude.{ℕ, suc, ◌≢◌, ◌≤◌, ◌+◌, ◌-◌, ◌&&◌, nat_le, nat_lt, List, length, map}
 use Rattle.std.specs.Prelude.{Bool, false, Option, Some, if◌then◌else◌}
 use Rattle.std.specs.List.{count_by, filter, range_with_len, sum, sum_by}
-use Rattle.sota_hist.specs.Time.{within, least_tick, greatest_tick}
+use Rattle.sota_hist.specs.Time.{within, span}
 use Rattle.sota_network.specs.Network.{Net, IsNode}
 use Rattle.sota_network.specs.Numbers.{listed}
 use Rattle.sota_network.specs.Grid.{greatest}
@@ -31,10 +31,6 @@ table_cells net origin dest last = sum (listed (λ i. pairs_at net origin dest l
 -- region
 abbrev pub NARROW : ℕ
 NARROW = 32
-
--- how far the ticks of pairs reach, from the least to the greatest
-abbrev pub span : List (ℕ × ℕ) → ℕ
-span pairs = greatest_tick pairs - least_tick pairs + 1
 
 -- what an arc with so many pairs at its tail adds to the broad cells
 abbrev pub broad_at : ℕ → ℕ → Arc → ℕ

@@ -1,7 +1,7 @@
 -- What a summer means, and what it answers.
 use Rattle.std.specs.Prelude.{ℕ, ◌+◌, ◌-◌, ◌*◌, min, List, [], ◌∷◌, ◌++◌, map, slice_index}
 use Rattle.std.specs.List.{range_with_len}
-use Rattle.sota_hist.specs.Time.{least_tick, greatest_tick, mass_at}
+use Rattle.sota_hist.specs.Time.{least_tick, mass_at, span}
 use Rattle.sota_block.specs.Product.{sum_below}
 
 -- the masses by ticks from the least on, the values fed so far, how many more can be fed, and the
@@ -12,15 +12,20 @@ pub record SummerState : Type 0 where
   pub room : ℕ
   pub start : ℕ
 
--- how many ticks there are from the least to the greatest
-abbrev pub span : List (ℕ × ℕ) → ℕ
-span time = greatest_tick time - least_tick time + 1
-
 -- The masses at the ticks from the least on, absent ones being 0, up to the greatest tick but no
 -- more than `length`. Further ones meet no value, since no more than `length` values are fed
 abbrev pub kernel_of : ℕ → List (ℕ × ℕ) → List ℕ
 kernel_of length time =
     map (λ b. mass_at (least_tick time + b) time) (range_with_len 0 (min (span time) length))
+
+-- a summer of these ticks with room for so many values, to which none was fed
+abbrev pub unfed : ℕ → ℕ → List (ℕ × ℕ) → SummerState
+unfed room start time = record {
+  kernel = kernel_of room time;
+  values = [];
+  room = room;
+  start = start;
+}
 
 -- The sum at a position p of at least 1: of the kernel's b-th mass times the value p - b, over b
 -- from 1 to p. Masses are counted from 1 and values from 0, so that mass b stands at place b - 1 of

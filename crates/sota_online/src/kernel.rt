@@ -1,9 +1,9 @@
 // The masses of a histogram, tick by tick.
 ghost use Rattle.std.specs.Prelude.{◌≡◌, ◌≤◌, length, sum, min, false, IfOk, vec_len};
-ghost use Rattle.sota_hist.specs.Time.{is_closed};
+ghost use Rattle.sota_hist.specs.Time.{is_closed, span};
 ghost use Rattle.sota_units.specs.Rounding.{SCALE_LIMIT};
 ghost use Rattle.sota_block.specs.Meeting.{IsSkips};
-ghost use Rattle.sota_online.specs.Summer.{kernel_of, span};
+ghost use Rattle.sota_online.specs.Summer.{kernel_of};
 
 use sota_hist::Histogram;
 use sota_units::NoMemory;

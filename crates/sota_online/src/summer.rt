@@ -1,8 +1,8 @@
 // Sums over a list of values that grows.
-ghost use Rattle.std.specs.Prelude.{◌≡◌, ℕ, ◌+◌, ◌<◌, ◌≤◌, [], length, slice_index, false, IfOk};
+ghost use Rattle.std.specs.Prelude.{◌≡◌, ℕ, ◌+◌, ◌<◌, ◌≤◌, length, slice_index, false, IfOk};
 ghost use Rattle.sota_units.specs.Rounding.{HEFT_LIMIT};
 ghost use Rattle.sota_hist.specs.Time.{is_closed};
-ghost use Rattle.sota_online.specs.Summer.{SummerState, kernel_of, plain, fed_more};
+ghost use Rattle.sota_online.specs.Summer.{SummerState, unfed, plain, fed_more};
 
 use crate::Workspace;
 use sota_hist::Histogram;
@@ -23,12 +23,7 @@ pub trait Summer: Sized + Drop {
     fn make(alloc: Global, time: &Histogram, length: u32, start: u32) -> Result<Self, NoMemory>
         requires open { is_closed time.now ≡ false }
         requires length { length ≤ 65536 }
-        ensures { IfOk result (λ summer. state summer ≡ record {
-          kernel = kernel_of length time.now;
-          values = [];
-          room = length;
-          start = start;
-        }) };
+        ensures { IfOk result (λ summer. state summer ≡ unfed length start time.now) };
 
     /// How many values were fed.
     fn fed(&self) -> u32

@@ -10,15 +10,15 @@ use Rattle.std.proofs.Math.ListN as maps
 use Rattle.std.proofs.lemmas.List.{get_or-set_same, get_or-set_other, get_or_default, get_or_past, get_or-map, length-map, map-append, map_more}
 use Rattle.std.proofs.lemmas.List.FromFn.{length-map-range_with_len}
 use Rattle.sota_bank.specs.Rows.{Row}
-use Rattle.sota_online.specs.Summer.{SummerState, span, kernel_of}
+use Rattle.sota_online.specs.Summer.{SummerState, kernel_of}
 use Rattle.sota_fill.specs.Fed.{IsFed, IsSameSummer}
 use Rattle.sota_network.specs.Network.{Net, arc_at}
 use Rattle.sota_network.specs.declared.network.Arc.{Arc}
-use Rattle.sota_hist.specs.Time.{is_closed, least_tick, mass_at, within}
+use Rattle.sota_hist.specs.Time.{is_closed, least_tick, mass_at, span, within}
 use Rattle.sota_network.specs.Region.{NARROW}
 use Rattle.sota_period.specs.Needs.{need_at}
 use Rattle.sota_period.specs.Rows.{row_of, row_value, row_room, AreLonger}
-use Rattle.sota_period.specs.Broad.{IsFedArc, AllFed, IsReady, AllReady, AreSame, AreSummers, IsWorkFor, SummerList, state_of, state_at, unfed, first_state, is_summed, kernel_places}
+use Rattle.sota_period.specs.Broad.{IsFedArc, AllFed, IsReady, AllReady, AreSame, AreSummers, IsWorkFor, SummerList, state_of, state_at, unfed_from, first_state, is_summed, kernel_places}
 
 -- a summer was fed on, the given values, until so many are fed
 pub record IsFedOn (value : ℕ → ℕ) (to : ℕ) (old new : SummerState) : Type 0 where
@@ -175,8 +175,8 @@ first-fed : (rows : List (Row ℕ)) (needs : List ℕ) (from : ℕ) (arc : Arc) 
 first-fed rows needs from arc state room is =
     ⊎_elim
     (λ (yes : is_summed needs from arc ≡ true).
-    let both : Some (unfed (need_at needs arc.head) from arc) ≡ Some state = rw yes at is in
-    let same : unfed (need_at needs arc.head) from arc ≡ state = cc in
+    let both : Some (unfed_from (need_at needs arc.head) from arc) ≡ Some state = rw yes at is in
+    let same : unfed_from (need_at needs arc.head) from arc ≡ state = cc in
     subst (λ (s : SummerState). IsFedArc rows arc s) same
     (record {
       open_arc = summed-open needs from arc yes;
@@ -196,8 +196,8 @@ first-ready : (needs : List ℕ) (from places : ℕ) (arc : Arc) (state : Summer
 first-ready needs from places arc state room is =
     ⊎_elim
     (λ (yes : is_summed needs from arc ≡ true).
-    let both : Some (unfed (need_at needs arc.head) from arc) ≡ Some state = rw yes at is in
-    let same : unfed (need_at needs arc.head) from arc ≡ state = cc in
+    let both : Some (unfed_from (need_at needs arc.head) from arc) ≡ Some state = rw yes at is in
+    let same : unfed_from (need_at needs arc.head) from arc ≡ state = cc in
     record {
       start = subst (λ (s : SummerState). s.start ≤ from + 1 - least_tick arc.time) same (omega arith);
       work = subst (IsWorkFor places) is room;

@@ -1,5 +1,5 @@
 -- The summers of broad arcs, and what they were fed.
-use Rattle.std.specs.Prelude.{ℕ, ◌≡◌, ◌+◌, ◌-◌, ◌<◌, ◌≤◌, ◌&&◌, nat_lt, Bool, false, List, []}
+use Rattle.std.specs.Prelude.{ℕ, ◌≡◌, ◌+◌, ◌-◌, ◌<◌, ◌≤◌, ◌&&◌, nat_lt, Bool, false, List}
 use Rattle.std.specs.Prelude.{length, slice_index_or, Option, None, Some, Box, if◌then◌else◌}
 use Rattle.std.specs.declared.alloc.Global.{Global}
 use Rattle.sota_bank.specs.Rows.{Row}
@@ -7,7 +7,7 @@ use Rattle.sota_hist.specs.Time.{is_closed, least_tick, within}
 use Rattle.sota_network.specs.Network.{Net, arc_at}
 use Rattle.sota_network.specs.Region.{NARROW}
 use Rattle.sota_network.specs.declared.network.Arc.{Arc}
-use Rattle.sota_online.specs.Summer.{SummerState, kernel_of}
+use Rattle.sota_online.specs.Summer.{SummerState, unfed}
 use Rattle.sota_fill.specs.Fed.{IsFed, IsSameSummer}
 use Rattle.sota_period.specs.Needs.{need_at}
 use Rattle.sota_period.specs.Rows.{row_of, row_value, row_room}
@@ -32,18 +32,13 @@ is_summed needs from arc = nat_lt from (need_at needs arc.tail)
 
 -- a summer of an arc that was fed nothing yet, with room for so many values, whose sums are read at
 -- the budgets from one on
-abbrev pub unfed : ℕ → ℕ → Arc → SummerState
-unfed width from arc = record {
-  kernel = kernel_of width arc.time;
-  values = [];
-  room = width;
-  start = from + 1 - least_tick arc.time;
-}
+abbrev pub unfed_from : ℕ → ℕ → Arc → SummerState
+unfed_from width from arc = unfed width (from + 1 - least_tick arc.time) arc.time
 
 -- such a summer where it is wanted, with room for what the head needs
 abbrev pub first_state : List ℕ → ℕ → Arc → Option SummerState
 first_state needs from arc =
-    if is_summed needs from arc then Some (unfed (need_at needs arc.head) from arc) else None
+    if is_summed needs from arc then Some (unfed_from (need_at needs arc.head) from arc) else None
 
 -- how long the kernel of a summer is, 0 where there is none
 abbrev pub kernel_places : Option SummerState → ℕ

@@ -3,9 +3,9 @@ use Rattle.std.proofs.Common.{ℕ, ◌≡◌, ◌+◌, ◌-◌, ◌≤◌, min, 
 use Rattle.std.specs.List.{All}
 use Rattle.std.proofs.lemmas.Bool.{cases_Bool}
 use Rattle.std.proofs.lemmas.List.FromFn.{length-map-range_with_len}
-use Rattle.sota_hist.specs.Time.{least_tick, mass_at}
+use Rattle.sota_hist.specs.Time.{least_tick, mass_at, span}
 use Rattle.sota_network.specs.declared.network.Arc.{Arc}
-use Rattle.sota_online.specs.Summer.{span, kernel_of}
+use Rattle.sota_online.specs.Summer.{kernel_of}
 use Rattle.sota_bounds.specs.Search.{time_at}
 use Rattle.sota_bounds.specs.Cells.{pairs_by_need, pairs_by_lists}
 use Rattle.sota_kept.specs.Ticks.{END_LIMIT}

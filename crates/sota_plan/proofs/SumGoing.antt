@@ -13,7 +13,7 @@ use Rattle.sota_network.specs.Walks.{Walk, step}
 use Rattle.sota_network.specs.Reach.{reaches}
 use Rattle.sota_network.specs.Region.{NARROW, pairs_at}
 use Rattle.sota_network.specs.declared.network.Arc.{Arc}
-use Rattle.sota_online.specs.Summer.{SummerState, kernel_of}
+use Rattle.sota_online.specs.Summer.{SummerState, kernel_of, unfed}
 use Rattle.sota_bounds.specs.Search.{time_at}
 use Rattle.sota_bounds.specs.Cells.{pairs_by_need}
 use Rattle.sota_bounds.specs.Regions.{IsRegion}
@@ -24,7 +24,7 @@ use Rattle.sota_tables.specs.Views.{TablesView, table_at}
 use Rattle.sota_fill.specs.declared.broad.Summers.{Summers}
 use Rattle.sota_fill.specs.Fed.{IsFed, AllFed, SummersList, unboxed, summers_at}
 use Rattle.sota_fill.specs.Fills.{IsLonger}
-use Rattle.sota_plan.specs.Runs.{ArcSums, states_of, is_broad, most_fed, unfed, first_position, first_sums, values_fed, HasPlaces, HasSpent}
+use Rattle.sota_plan.specs.Runs.{ArcSums, states_of, is_broad, most_fed, first_position, first_sums, values_fed, HasPlaces, HasSpent}
 use Rattle.sota_plan.specs.Summed.{IsSummed, SummedAs, CanFeed, AllCanFeed, values_below}
 use Rattle.sota_plan.proofs.Extends.{AllSummed, fed_so_far}
 use Rattle.sota_plan.specs.Laws.{TimeLaws}
@@ -248,7 +248,7 @@ none-states : {Z : Type 0} (state : Z → SummerState) (o : Option (Box (Summers
 none-states state None are = refl
 none-states state (Some two) are = absurd (none-some two.value (sym are))
 
-fed-none : (net : Net) (dest : ℕ) → TimeLaws net dest → (arc : Arc) (total start : ℕ) (s : SummerState) (f : ℕ → ℕ) → s ≡ unfed total start arc → ((u : ℕ) → u < least_to net dest arc.head → f u ≡ 0)
+fed-none : (net : Net) (dest : ℕ) → TimeLaws net dest → (arc : Arc) (total start : ℕ) (s : SummerState) (f : ℕ → ℕ) → s ≡ unfed total start arc.time → ((u : ℕ) → u < least_to net dest arc.head → f u ≡ 0)
     → IsFed s arc.time (least_to net dest arc.head) f × (length s.values ≡ 0) × (length s.values + s.room ≡ total) × (s.start ≡ start)
 fed-none net dest laws arc total start s f is early =
     subst (λ (x : SummerState). IsFed x arc.time (least_to net dest arc.head) f × (length x.values ≡ 0) × (length x.values + x.room ≡ total) × (x.start ≡ start)) (sym is) (
@@ -263,10 +263,10 @@ fed-none net dest laws arc total start s f is early =
     )
 
 first-found : {Z : Type 0} (state : Z → SummerState) (net : Net) (dest : ℕ) → TimeLaws net dest → (arc : Arc) (total start : ℕ) (o : Option (Box (Summers Z) Global)) → is_closed arc.time ≡ false
-    → states_of state o ≡ Some (record { lower = unfed total start arc; upper = unfed total start arc }) → SummedAs state net dest arc 0 total start (unboxed o)
-first-found {Z} state net dest laws arc total start None opened are = absurd (none-some (record { lower = unfed total start arc; upper = unfed total start arc }) are)
+    → states_of state o ≡ Some (record { lower = unfed total start arc.time; upper = unfed total start arc.time }) → SummedAs state net dest arc 0 total start (unboxed o)
+first-found {Z} state net dest laws arc total start None opened are = absurd (none-some (record { lower = unfed total start arc.time; upper = unfed total start arc.time }) are)
 first-found {Z} state net dest laws arc total start (Some two) opened are =
-    let both : record { lower = state two.value.lower; upper = state two.value.upper } ≡ record { lower = unfed total start arc; upper = unfed total start arc } = some-is (record { lower = state two.value.lower; upper = state two.value.upper }) (record { lower = unfed total start arc; upper = unfed total start arc }) are in
+    let both : record { lower = state two.value.lower; upper = state two.value.upper } ≡ record { lower = unfed total start arc.time; upper = unfed total start arc.time } = some-is (record { lower = state two.value.lower; upper = state two.value.upper }) (record { lower = unfed total start arc.time; upper = unfed total start arc.time }) are in
     let lower = fed-none net dest laws arc total start (state two.value.lower) (lo net dest arc.head) (ap (λ (s : ArcSums). s.lower) both) (λ u early. (zero-below net dest laws arc.head u early).0) in
     let upper = fed-none net dest laws arc total start (state two.value.upper) (hi net dest arc.head) (ap (λ (s : ArcSums). s.upper) both) (λ u early. (zero-below net dest laws arc.head u early).1) in
     record {
@@ -284,7 +284,7 @@ module _ {Z : Type 0} (state : Z → SummerState) (net : Net) (region : AskRegio
   pub summed-first : (before : TablesView) (broad : SummersList Z) → ((e : ℕ) (arc : Arc) → arc_at net e ≡ Some arc → get_or (map (states_of state) broad) (e - 1) None ≡ first_sums net region before arc) → AllSummed state net region before before broad
   summed-first before broad are e arc at = record {
     broad = λ wide.
-        let first : states_of state (get_or broad (e - 1) None) ≡ Some (record { lower = unfed (most_fed net region arc) (first_position before region arc) arc; upper = unfed (most_fed net region arc) (first_position before region arc) arc }) = sym (sums-get state broad e) ∙ are e arc at ∙ (rw wide refl) in
+        let first : states_of state (get_or broad (e - 1) None) ≡ Some (record { lower = unfed (most_fed net region arc) (first_position before region arc) arc.time; upper = unfed (most_fed net region arc) (first_position before region arc) arc.time }) = sym (sums-get state broad e) ∙ are e arc at ∙ (rw wide refl) in
         let still : fed_so_far net region before before arc ≡ 0 = rw (le-ltb (known_end (table_at before arc.tail)) (known_end (table_at before arc.tail)) (omega arith)) refl in
         subst (λ (n : ℕ). SummedAs state net region.dest arc n (most_fed net region arc) (first_position before region arc) (summers_at broad e)) (sym still)
         (first-found state net region.dest laws arc (most_fed net region arc) (first_position before region arc) (get_or broad (e - 1) None) (broad-open net region laws is times needs at-dest arc wide) first);

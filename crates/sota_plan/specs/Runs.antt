@@ -1,6 +1,6 @@
 -- What an ask is planned with, when it is ready to be filled, and what it has spent then.
 use Rattle.std.specs.Prelude.{ℕ, ◌≡◌, ◌+◌, ◌-◌, ◌<◌, ◌≤◌, ◌&&◌, nat_lt, Bool, true, false}
-use Rattle.std.specs.Prelude.{List, [], length, slice_index, slice_index_or}
+use Rattle.std.specs.Prelude.{List, length, slice_index, slice_index_or}
 use Rattle.std.specs.Prelude.{Option, None, Some, Box, if◌then◌else◌}
 use Rattle.std.specs.declared.alloc.Global.{Global}
 use Rattle.sota_units.specs.Limits.{BUDGET_LIMIT}
@@ -9,7 +9,7 @@ use Rattle.sota_network.specs.Network.{Net, IsNet, IsNode, arc_at}
 use Rattle.sota_network.specs.Grid.{lo, hi}
 use Rattle.sota_network.specs.Region.{NARROW, pairs_at}
 use Rattle.sota_network.specs.declared.network.Arc.{Arc}
-use Rattle.sota_online.specs.Summer.{SummerState, kernel_of}
+use Rattle.sota_online.specs.Summer.{SummerState, kernel_of, unfed}
 use Rattle.sota_bounds.specs.Cells.{pairs_by_lists}
 use Rattle.sota_bounds.specs.Regions.{IsRegion}
 use Rattle.sota_bounds.specs.declared.ask.AskRegion.{AskRegion}
@@ -72,20 +72,11 @@ abbrev pub first_position : TablesView → AskRegion → Arc → ℕ
 first_position tables region arc = known_end (table_at tables arc.tail) + 1
     - (least_tick arc.time + base_by region.least arc.head)
 
--- a summer of the arc with room for so many values, to which none was fed
-abbrev pub unfed : ℕ → ℕ → Arc → SummerState
-unfed room start arc = record {
-  kernel = kernel_of room arc.time;
-  values = [];
-  room = room;
-  start = start;
-}
-
 -- two such summers where an arc whose tail has so many pairs is broad, else none
 abbrev pub first_sums_by : ℕ → ℕ → ℕ → Arc → Option ArcSums
 first_sums_by pairs start last arc =
     if is_broad_by pairs last arc
-    then Some (record { lower = unfed pairs start arc; upper = unfed pairs start arc })
+    then Some (record { lower = unfed pairs start arc.time; upper = unfed pairs start arc.time })
     else None
 
 abbrev pub first_sums : Net → AskRegion → TablesView → Arc → Option ArcSums

@@ -7,7 +7,7 @@ use Rattle.sota_network.specs.Grid.{lo, hi, choice, value_from}
 use Rattle.sota_network.specs.Region.{need}
 use Rattle.sota_network.specs.Laws.{ListLaws}
 use Rattle.sota_kept.specs.Ticks.{least_to}
-use Rattle.sota_kept.specs.NodeTables.{NodeTable, IsSettledAt, IsReadyAt, known_end, lower_of, upper_of, choice_at}
+use Rattle.sota_kept.specs.NodeTables.{NodeTable, IsSettledAt, IsReadyAt, known_end, lower_of, upper_of, next_of}
 use Rattle.sota_kept.specs.States.{State, front_of, base_of, grown_state}
 use Rattle.sota_kept.specs.TableLists.{IsSettled, EntriesSettled, state_of, table_of}
 use Rattle.sota_bounds.specs.Cells.{listed_need}
@@ -29,7 +29,7 @@ pub record HasGrown (net : Net) (region : AskRegion) (mid new : TablesView) : Ty
   pub known : (s : NodeTable) → region.origin ≢ region.dest → IsReadyAt net region.dest region.origin s → need net region.origin region.dest region.budget region.origin ≤ known_end s → region.budget < known_end s
   pub lower : (i t : ℕ) (s : NodeTable) → IsSettledAt net region.dest i s → t < known_end s → lower_of s t ≡ lo net region.dest i t
   pub upper : (i t : ℕ) (s : NodeTable) → IsSettledAt net region.dest i s → t < known_end s → upper_of s t ≡ hi net region.dest i t
-  pub choice_is : (i t : ℕ) (s : NodeTable) → i ≢ region.dest → IsSettledAt net region.dest i s → t < known_end s → choice_at s t ≡ choice net region.dest i t
+  pub choice_is : (i t : ℕ) (s : NodeTable) → i ≢ region.dest → IsSettledAt net region.dest i s → t < known_end s → next_of s t ≡ choice net region.dest i t
   pub lower_recurs : (i t : ℕ) → lo net region.dest i t ≡ value_from floor_by net region.dest (lo net region.dest) i t
   pub upper_recurs : (i t : ℕ) → hi net region.dest i t ≡ value_from ceiling_by net region.dest (hi net region.dest) i t
 

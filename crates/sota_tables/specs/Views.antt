@@ -6,7 +6,7 @@ use Rattle.sota_units.specs.Limits.{NODE_LIMIT}
 use Rattle.sota_units.specs.Rounding.{ONE}
 use Rattle.sota_bank.specs.Rows.{Row, list_at, cap_at, lists}
 use Rattle.sota_kept.specs.NodeTables.{NodeTable, IsNodeTable, known_end, lower_of, upper_of}
-use Rattle.sota_kept.specs.NodeTables.{choice_at}
+use Rattle.sota_kept.specs.NodeTables.{next_of}
 use Rattle.sota_kept.specs.TableLists.{TableLists}
 
 -- the destination or none, and for each node a front, a base and three rows
@@ -73,7 +73,7 @@ abbrev pub known_upper : TablesView → ℕ → ℕ → ℕ
 known_upper v i t = if is_at_dest v.dest i then ONE else upper_of (table_at v i) t
 
 abbrev pub choice_in : TablesView → ℕ → ℕ → Option ℕ
-choice_in v i t = if is_at_dest v.dest i then None else choice_at (table_at v i) t
+choice_in v i t = if is_at_dest v.dest i then None else next_of (table_at v i) t
 
 -- ---- rooms
 -- how many entries can still be pushed at node i
