@@ -98,9 +98,7 @@ fn asked<Z: Summer, M: Ledger>(
 ) -> Result<TimedAnswer, Fail>
     requires { budget ≤ deadline }
 {
-    Ok(plan_timed::<Z, M>(
-        alloc, timed, 1, 3, budget, deadline, products,
-    )?)
+    Ok(plan_timed::<Z, M>(alloc, timed, 1, 3, budget, deadline, products)?)
 }
 
 /// The bounds and the arc of the ask within 3 ticks.

@@ -56,7 +56,11 @@ fn push_two<P: Ledger>(tables: &mut Tables, blank: Blank)
 fn known(tables: &Tables, node: NodeId, budget: u32) -> (Grain, Grain, Option<ArcId>)
     requires { IsKnownAt tables.now node budget }
 {
-    (tables.lower(node, budget), tables.upper(node, budget), tables.choice(node, budget))
+    (
+        tables.lower(node, budget),
+        tables.upper(node, budget),
+        tables.choice(node, budget),
+    )
 }
 
 /// The first node is known from below its base up to its front, and the destination everywhere.
