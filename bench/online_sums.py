@@ -3,8 +3,8 @@
 
     bench/online_sums.py [FOLDER]
 
-Values are fed one after the other, and the sum at each position is read as soon as it is known ('block', 'plain') or the
-sums of 64 positions at once ('blocks', 'plains'), for kernels of span 16 to 5000, with a mass at each tick or at one in
+Values are fed one after the other, and the sum at each position is read as soon as it is known ('block', 'plain'), or 64
+values are fed and the sums of 64 positions are read at once ('blocks', 'plains'), for kernels of span 16 to 5000, with a mass at each tick or at one in
 ten. The program on the Rattle side has to be a crate, so it is made in a
 scratch folder (FOLDER, or one of its own that is removed afterwards) from copies of this repository's crates; that
 proves and builds it. The C loop is compiled by gcc -O2 and -O3 and sums 128 bits wide. Each time is the least of
@@ -76,7 +76,7 @@ fn all_sums<S: Summer, M: Ledger>(
     all
 }
 
-// The same, but reads the sums of 64 positions at once.
+// The same, but feeds 64 values and reads the sums of 64 positions at once.
 fn many_sums<S: Summer, M: Ledger>(
     alloc: Global,
     time: &Histogram,
@@ -101,16 +101,17 @@ fn many_sums<S: Summer, M: Ledger>(
     };
     let mut all = 0u128;
     let mut seed = start;
+    let mut values = [Grain::ZERO; 64];
     let mut sums = [0u128; 64];
     for _block in 0..length / 64 {
-        for _turn in 0..64 {
-            if summer.room() == 0 {
-                return all;
-            }
-            seed = seed.wrapping_mul(6364136223846793005).wrapping_add(1);
-            let value = Grain::new(seed >> 5).unwrap_or(Grain::ZERO);
-            summer.feed(value, &mut workspace, products);
+        if summer.room() < 64 {
+            return all;
         }
+        for turn in 0..64usize {
+            seed = seed.wrapping_mul(6364136223846793005).wrapping_add(1);
+            values[turn] = Grain::new(seed >> 5).unwrap_or(Grain::ZERO);
+        }
+        summer.feed_all(&values, &mut workspace, products);
         let fed = summer.fed();
         if fed >= 64 {
             summer.sums(fed - 63, &mut sums);
@@ -333,7 +334,7 @@ def make(folder):
     program = f"{folder}/crates/online_speed"
     write(f"{program}/src/main.rt", filled(MAIN))
     write(f"{program}/proofs/spans/Invariants.antt", PICKS)
-    for function, loops in [("all_sums", ["turn"]), ("many_sums", ["block", "turn"])]:
+    for function, loops in [("all_sums", ["turn"]), ("many_sums", ["block"])]:
         kept = KEPT.replace("FUNCTION", function) + "".join(LOOP.replace("NAME", name) for name in loops)
         write(f"{program}/proofs/{function}/Invariants.antt", kept)
     subprocess.run(["rt", "run"], cwd=program, check=True, stdout=subprocess.DEVNULL)

@@ -1,9 +1,9 @@
 -- How many products the squares of a feed take.
-use Rattle.std.proofs.Common.{◌≡◌, ℕ, zero, suc, ◌+◌, ◌%◌, ◌^◌, ◌<◌, ◌≤◌, ◌⊎◌, ⊎_elim, sym, ap, ◌∙◌, arith, add-one}
+use Rattle.std.proofs.Common.{◌≡◌, ℕ, zero, suc, ◌+◌, ◌-◌, ◌%◌, ◌^◌, ◌<◌, ◌≤◌, ◌⊎◌, ⊎_elim, sym, ap, ◌∙◌, arith, add-one}
 use Rattle.std.proofs.lemmas.Bool.Decides.{nat_tests}
 use Rattle.std.proofs.Math.Nat.{mul-mod_left, pow-suc}
 use Rattle.sota_block.specs.Product.{sum_below, fold_count}
-use Rattle.sota_online.specs.Squares.{square_count, square_counts}
+use Rattle.sota_online.specs.Squares.{square_count, square_counts, feeds_count}
 use Rattle.sota_online.proofs.Squares.{Stands}
 use Rattle.sota_block.proofs.Crossings.{sum_below-le}
 
@@ -44,3 +44,14 @@ counts_rise span span' k longer =
     sums-le : (n : ℕ) → sum_below n (λ r. square_count span k r) ≤ sum_below n (λ r. square_count span' k r)
     sums-le zero = omega arith
     sums-le (suc n) = omega (arith, sums-le n, count-le span span' k n longer)
+
+-- of the values that a block takes the last alone is counted
+pub feeds_more : (span span' fed done n total before now new : ℕ) → 1 ≤ n → span' ≡ span → total ≡ fed + (done + n) → now ≤ before + feeds_count span fed done → new ≤ now + square_counts span' total
+    → new ≤ before + feeds_count span fed (done + n)
+feeds_more span span' fed done n total before now new some same all low more =
+    let m : ℕ = done + (n - 1) in
+    let f : ℕ → ℕ = λ i. square_counts span (fed + i + 1) in
+    let next : suc m ≡ done + n = omega arith in
+    let last : square_counts span' total ≡ f m = ap (λ (s : ℕ). square_counts s total) same ∙ ap (λ (k : ℕ). square_counts span k) (omega arith) in
+    let all_counts : sum_below (suc m) f ≡ sum_below (done + n) f = ap (λ (k : ℕ). sum_below k f) next in
+    omega (arith, sum_below-le done m f (omega arith), last, all_counts)

@@ -374,6 +374,16 @@ Holds-no_masses m f R first k r start p low high none held =
     square-no_masses m g (2 ^ q) 0 (mixed first k r q) p far ∙ sym (square-no_masses m g (2 ^ q) 0 (reached first k q) p far))
     (cases_lt q r))) held
 
+-- a kernel without masses at any level meets nothing, however many values it reached
+pub Holds-unmet : (m f : ℕ → ℕ) (R first n k start p low high : ℕ) → ((b : ℕ) → 2 ^ first ≤ b → m b ≡ 0) → HoldsProducts m f (reached first n) R start p low high → HoldsProducts m f (reached first k) R start p low high
+Holds-unmet m f R first n k start p low high none held =
+    Holds-same m f (reached first n) (reached first k) R start p low high (λ g. levels-agree m g (reached first n) (reached first k) R p (λ q below.
+    ⊎_elim (λ (before : q < first). ap (λ (x : ℕ). square m g (2 ^ q) 0 x p) (reached-below first n q before ∙ sym (reached-below first k q before)))
+    (λ (from : first ≤ q).
+    let far : (b : ℕ) → 2 ^ q ≤ b → m b ≡ 0 = λ b low. none b (omega (arith, pow-le-pow_right {n = 2} (omega arith) {i = first} {j = q} from)) in
+    square-no_masses m g (2 ^ q) 0 (reached first n q) p far ∙ sym (square-no_masses m g (2 ^ q) 0 (reached first k q) p far))
+    (cases_lt q first))) held
+
 -- the values may change where no level has met them
 pub Holds-values : (m f g reach : ℕ → ℕ) (R n start p low high : ℕ) → ((a : ℕ) → a < n → f a ≡ g a) → ((r : ℕ) → reach r ≤ n) → HoldsProducts m f reach R start p low high → HoldsProducts m g reach R start p low high
 Holds-values m f g reach R n start p low high same within held =

@@ -78,3 +78,7 @@ square_count span k r = if (k % 2 ^ r == 0) && nat_le (2 ^ r) span then fold_cou
 -- and all of them together; no level is as great as the kernel is long
 abbrev pub square_counts : ℕ → ℕ → ℕ
 square_counts span k = sum_below span (λ r. square_count span k r)
+
+-- and of `count` values after the first `fed` ones
+abbrev pub feeds_count : ℕ → ℕ → ℕ → ℕ
+feeds_count span fed count = sum_below count (λ i. square_counts span (fed + i + 1))

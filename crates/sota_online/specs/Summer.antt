@@ -1,5 +1,5 @@
 -- What a summer means, and what it answers.
-use Rattle.std.specs.Prelude.{ℕ, ◌+◌, ◌-◌, ◌*◌, min, List, [], ◌∷◌, ◌++◌, map, slice_index}
+use Rattle.std.specs.Prelude.{ℕ, ◌≡◌, ◌+◌, ◌-◌, ◌*◌, ◌<◌, ◌≤◌, ◌⊎◌, min, List, [], ◌∷◌, ◌++◌, map, slice_index, length}
 use Rattle.std.specs.List.{range_with_len}
 use Rattle.sota_hist.specs.Time.{least_tick, mass_at, span}
 use Rattle.sota_block.specs.Product.{sum_below}
@@ -42,3 +42,18 @@ fed_more value state = record {
   room = state.room - 1;
   start = state.start;
 }
+
+-- several values more
+abbrev pub fed_all : List ℕ → SummerState → SummerState
+fed_all values state = record {
+  kernel = state.kernel;
+  values = state.values ++ values;
+  room = state.room - length values;
+  start = state.start;
+}
+
+-- so many values were put from a place on, and all else is as before
+pub record IsPut (old new : List ℕ) (at count : ℕ) (value : ℕ → ℕ) : Type 0 where
+  pub size : length new ≡ length old
+  pub put : (k : ℕ) → k < count → slice_index new (at + k) ≡ value k
+  pub others : (j : ℕ) → (j < at) ⊎ (at + count ≤ j) → slice_index new j ≡ slice_index old j

@@ -1,16 +1,17 @@
 // Sums by squares.
 ghost use Rattle.std.specs.Prelude.{◌≡◌, ℕ, ◌≤◌, ◌<◌, ◌+◌, ◌-◌, ◌*◌, ◌^◌, [], length, slice_index};
-ghost use Rattle.std.specs.Prelude.{false, true, IfOk, ◌%◌, ◌⊎◌};
+ghost use Rattle.std.specs.Prelude.{false, true, IfOk, ◌%◌, ◌⊎◌, take};
 ghost use Rattle.sota_units.specs.Rounding.{HEFT_LIMIT};
 ghost use Rattle.sota_hist.specs.Time.{is_closed};
-ghost use Rattle.sota_online.specs.Summer.{kernel_of, plain, fed_more};
-ghost use Rattle.sota_online.specs.Squares.{square_counts};
+ghost use Rattle.sota_online.specs.Summer.{plain, fed_more, fed_all};
+ghost use Rattle.sota_online.specs.Squares.{square_counts, feeds_count};
 
 use crate::halves::{add_halves, joined};
 use crate::kernel::{kernel_masses, skips_of};
 use crate::levels::work_off;
 use crate::square::some_masses;
 use crate::sums::{plain_sum, plain_sums};
+use crate::values::put;
 use crate::{Summer, Workspace};
 use sota_hist::Histogram;
 use sota_units::{Grain, Heft, NoMemory, Steps};
@@ -106,21 +107,25 @@ impl Summer for BlockSummer {
         ensures count { products.new
             ≤ products.old + square_counts (length self.old.kernel) (length self.new.values) }
     {
-        self.values[self.fed] = value.get();
-        self.fed += 1;
-        if ends_block(self.masses.len(), self.first, self.smallest, self.fed) {
-            work_off(
-                &self.masses,
-                &self.skips,
-                self.first,
-                self.smallest,
-                &self.values[..self.fed],
-                self.start,
-                &mut self.low,
-                &mut self.high,
-                workspace,
-                products,
-            );
+        self.feed_some(&[value], workspace, products);
+    }
+
+    fn feed_all<M: Ledger>(
+        &mut self,
+        values: &[Grain],
+        workspace: &mut Workspace,
+        products: &mut Steps<M>,
+    )
+        requires room { length values.now ≤ self.old.room }
+        requires work { length self.old.kernel ≤ workspace.old }
+        ensures state { self.new ≡ fed_all values.now self.old }
+        ensures work { workspace.new ≡ workspace.old }
+        ensures count { products.new ≤ products.old + feeds_count (length self.old.kernel)
+            (length self.old.values) (length values.now) }
+    {
+        let mut done = 0;
+        while done < values.len() {
+            done += self.feed_some(&values[done..], workspace, products);
         }
     }
 
@@ -144,6 +149,64 @@ impl Summer for BlockSummer {
         plain_sums(near, &self.values[..self.fed], from, into);
         add_halves(&self.low[from..end], &self.high[from..end], into);
     }
+}
+
+impl BlockSummer {
+    // Feeds values up to the end of a block, and works off the squares that the block makes whole.
+    // Gives how many it fed.
+    #[inline(always)]
+    fn feed_some<M: Ledger>(
+        &mut self,
+        values: &[Grain],
+        workspace: &mut Workspace,
+        products: &mut Steps<M>,
+    ) -> usize
+        requires some { 1 ≤ length values.now }
+        requires room { length values.now ≤ self.old.room }
+        requires work { length self.old.kernel ≤ workspace.old }
+        ensures some { 1 ≤ result }
+        ensures within { result ≤ length values.now }
+        ensures state { self.new ≡ fed_all (take result values.now) self.old }
+        ensures work { workspace.new ≡ workspace.old }
+        ensures count { products.new
+            ≤ products.old + square_counts (length self.old.kernel) (length self.new.values) }
+    {
+        let span = self.masses.len();
+        let rest = rest_of_block(span, self.first, self.smallest, self.fed);
+        let count = values.len().min(rest);
+        let end = self.fed + count;
+        put(&values[..count], &mut self.values, self.fed);
+        self.fed = end;
+        if ends_block(span, self.first, self.smallest, end) {
+            work_off(
+                &self.masses,
+                &self.skips,
+                self.first,
+                self.smallest,
+                &self.values[..end],
+                self.start,
+                &mut self.low,
+                &mut self.high,
+                workspace,
+                products,
+            );
+        }
+        count
+    }
+}
+
+// How many values end the block that is begun. Where the kernel is too short for a square no block
+// ends.
+#[inline(always)]
+fn rest_of_block(span: usize, first: u32, smallest: usize, fed: usize) -> usize
+    requires { smallest ≡ 2 ^ first }
+    ensures some { 1 ≤ result }
+    ensures whole { smallest ≤ span → fed % 2 ^ first + result ≡ 2 ^ first }
+{
+    if span < smallest {
+        return usize::MAX;
+    }
+    smallest - (fed & (smallest - 1))
 }
 
 // How many places each row of sums has: none where the kernel is too short for a square.

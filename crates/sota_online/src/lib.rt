@@ -13,6 +13,7 @@ mod summer;
 mod sums;
 #[cfg(test)]
 mod tests;
+mod values;
 mod workspace;
 
 pub use block::BlockSummer;

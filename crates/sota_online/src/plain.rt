@@ -2,10 +2,11 @@
 ghost use Rattle.std.specs.Prelude.{◌≡◌, ℕ, ◌+◌, ◌<◌, ◌≤◌, [], length, slice_index, false, IfOk};
 ghost use Rattle.sota_units.specs.Rounding.{HEFT_LIMIT};
 ghost use Rattle.sota_hist.specs.Time.{is_closed};
-ghost use Rattle.sota_online.specs.Summer.{kernel_of, plain, fed_more};
+ghost use Rattle.sota_online.specs.Summer.{plain, fed_more, fed_all};
 
 use crate::kernel::kernel_masses;
 use crate::sums::{plain_sum, plain_sums};
+use crate::values::put;
 use crate::{Summer, Workspace};
 use sota_hist::Histogram;
 use sota_units::{Grain, Heft, NoMemory, Steps};
@@ -76,6 +77,21 @@ impl Summer for PlainSummer {
     {
         self.values[self.fed] = value.get();
         self.fed += 1;
+    }
+
+    fn feed_all<M: Ledger>(
+        &mut self,
+        values: &[Grain],
+        _workspace: &mut Workspace,
+        products: &mut Steps<M>,
+    )
+        requires room { length values.now ≤ self.old.room }
+        ensures state { self.new ≡ fed_all values.now self.old }
+        ensures work { _workspace.new ≡ _workspace.old }
+        ensures count { products.new ≡ products.old }
+    {
+        put(values, &mut self.values, self.fed);
+        self.fed += values.len();
     }
 
     fn sum(&self, position: u32) -> Heft {

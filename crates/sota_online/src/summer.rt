@@ -2,7 +2,7 @@
 ghost use Rattle.std.specs.Prelude.{◌≡◌, ℕ, ◌+◌, ◌<◌, ◌≤◌, length, slice_index, false, IfOk};
 ghost use Rattle.sota_units.specs.Rounding.{HEFT_LIMIT};
 ghost use Rattle.sota_hist.specs.Time.{is_closed};
-ghost use Rattle.sota_online.specs.Summer.{SummerState, unfed, plain, fed_more};
+ghost use Rattle.sota_online.specs.Summer.{SummerState, unfed, plain, fed_more, fed_all};
 
 use crate::Workspace;
 use sota_hist::Histogram;
@@ -43,6 +43,18 @@ pub trait Summer: Sized + Drop {
         requires room { 1 ≤ (state self.old).room }
         requires work { length (state self.old).kernel ≤ workspace.old }
         ensures state { state self.new ≡ fed_more value (state self.old) }
+        ensures work { workspace.new ≡ workspace.old };
+
+    /// Several values more, in their order. As `feed` for each of them, and faster.
+    fn feed_all<M: Ledger>(
+        &mut self,
+        values: &[Grain],
+        workspace: &mut Workspace,
+        products: &mut Steps<M>,
+    )
+        requires room { length values.now ≤ (state self.old).room }
+        requires work { length (state self.old).kernel ≤ workspace.old }
+        ensures state { state self.new ≡ fed_all values.now (state self.old) }
         ensures work { workspace.new ≡ workspace.old };
 
     /// The sum at a position: of each mass times the value as many places below the position as the
