@@ -51,11 +51,7 @@ fn all_sums<S: Summer, M: Ledger>(
         Ok(summer) => summer,
         Err(_) => return 0,
     };
-    let span = summer.span();
-    if span > 65_536 {
-        return 0;
-    }
-    let mut workspace = match Workspace::make(alloc, span) {
+    let mut workspace = match Workspace::make(alloc, summer.span()) {
         Ok(workspace) => workspace,
         Err(_) => return 0,
     };
@@ -91,11 +87,7 @@ fn many_sums<S: Summer, M: Ledger>(
         Ok(summer) => summer,
         Err(_) => return 0,
     };
-    let span = summer.span();
-    if span > 65_536 {
-        return 0;
-    }
-    let mut workspace = match Workspace::make(alloc, span) {
+    let mut workspace = match Workspace::make(alloc, summer.span()) {
         Ok(workspace) => workspace,
         Err(_) => return 0,
     };

@@ -29,8 +29,10 @@ pub fn feed_row<Z: Summer, M: Ledger>(
     ensures same { IsSameSummer (Z.state summer.old) (Z.state summer.new) }
     ensures work { workspace.new ≡ workspace.old }
 {
-    for index in summer.fed()..count {
-        summer.feed(row[skip + index as usize], workspace, products);
+    let fed = summer.fed();
+    if fed < count {
+        let from = skip + fed as usize;
+        summer.feed_all(&row[from..skip + count as usize], workspace, products);
     }
 }
 

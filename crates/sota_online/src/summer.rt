@@ -33,9 +33,10 @@ pub trait Summer: Sized + Drop {
     fn room(&self) -> u32
         ensures { result ≡ (state self.now).room };
 
-    /// How many places its kernel has.
+    /// How many places its kernel has, at most 65,536.
     fn span(&self) -> u32
-        ensures { result ≡ length (state self.now).kernel };
+        ensures places { result ≡ length (state self.now).kernel }
+        ensures limit { result ≤ 65536 };
 
     /// One value more. It takes no memory, and works in the room that is lent. What it multiplies
     /// is counted in `products`.

@@ -11,7 +11,8 @@ use std::process::Abort;
 use std::sync::ledger::{Blank, Ledger};
 use std::test::Fail;
 
-// The sums at each position from a start on, as soon as it is known, and then all at once.
+// The sums at each position from a start on, as soon as it is known, and then all at once of a
+// summer that is fed all values at once.
 fn sums_of<S: Summer, M: Ledger>(
     alloc: Global,
     time: &Histogram,
@@ -26,21 +27,23 @@ fn sums_of<S: Summer, M: Ledger>(
     let mut summer = S::make(alloc, time, values.len() as u32, start)?;
     let mut sums = vec![in alloc; 0u128; 0]?;
     for value in values {
-        let span = summer.span();
-        if summer.room() == 0 || span > 65536 {
+        if summer.room() == 0 {
             return Ok(sums);
         }
-        let mut workspace = Workspace::make(alloc, span)?;
+        let mut workspace = Workspace::make(alloc, summer.span())?;
         summer.feed(*value, &mut workspace, products);
         let position = summer.fed();
         if position >= start {
             sums.push(summer.sum(position).get())?;
         }
     }
-    let known = summer.fed() as usize + 1;
+    let mut whole = S::make(alloc, time, values.len() as u32, start)?;
+    let mut workspace = Workspace::make(alloc, whole.span())?;
+    whole.feed_all(values, &mut workspace, products);
+    let known = whole.fed() as usize + 1;
     let mut all = vec![in alloc; 0u128; known.saturating_sub(start as usize)]?;
     if start as usize <= known {
-        summer.sums(start, &mut all);
+        whole.sums(start, &mut all);
     }
     sums.extend_from_slice(&all)?;
     Ok(sums)
