@@ -64,17 +64,21 @@ put-whole values old new len at n count value p is as_many whole =
     let here : IsPut values new at count value = subst (λ (m : ℕ). IsPut values new at m value) as_many (subst (λ (xs : List ℕ). IsPut xs new at n value) is p) in
     subst (λ (xs : List ℕ). IsPut values xs at count value) (sym (whole_put values new len here.size whole)) here
 
--- and what the summer means then
-pub put-state : (masses values values' part : List ℕ) (fed start n : ℕ) (state : SummerState) → IsPut values values' fed n (λ k. get_or part k 0) → n ≡ length part → fed + n ≤ length values
-    → record { kernel = masses; values = take fed values; room = length values - fed; start = start } ≡ state
-    → record { kernel = masses; values = take (fed + n) values'; room = length values' - (fed + n); start = start } ≡ fed_all part state
-put-state masses values values' part fed start n state put all room view =
-    let put' : IsPut values values' fed (length part) (λ k. get_or part k 0) = subst (λ (m : ℕ). IsPut values values' fed m (λ k. get_or part k 0)) all put in
-    let held : take (fed + n) values' ≡ take fed values ++ part = ap (λ (m : ℕ). take (fed + m) values') all ∙ put-taken values values' part fed put' (omega arith) in
-    let left : length values' - (fed + n) ≡ length values - fed - length part = omega (arith, put.size) in
-    ap (λ (vs : List ℕ). record { kernel = masses; values = vs; room = length values' - (fed + n); start = start }) held
-    ∙ ap (λ (r : ℕ). record { kernel = masses; values = take fed values ++ part; room = r; start = start }) left
-    ∙ ap (λ (s : SummerState). fed_all part s) view
+-- what a summer means to which values were put that fit, into a list that was lent whole
+pub put-state : (masses values old new part : List ℕ) (len fed start n m : ℕ) (state : SummerState) → IsPut old new fed m (λ k. get_or part k 0) → old ≡ values → m ≡ n → n ≡ length part → len ≡ length values → n ≤ state.room
+    → fed ≤ length values → record { kernel = masses; values = take fed values; room = length values - fed; start = start } ≡ state
+    → record { kernel = masses; values = take (fed + n) (take len (new ++ drop (length new) values)); room = length (take len (new ++ drop (length new) values)) - (fed + n); start = start } ≡ fed_all part state
+put-state masses values old new part len fed start n m state put is as_many all whole fits within view =
+    let values' : List ℕ = take len (new ++ drop (length new) values) in
+    let here : IsPut values values' fed (length part) (λ k. get_or part k 0) = put-whole values old new len fed m (length part) (λ k. get_or part k 0) put is (as_many ∙ all) whole in
+    let left : length values - fed ≡ state.room = ap (λ (s : SummerState). s.room) view in
+    let held : take (fed + n) values' ≡ take fed values ++ part = ap (λ (k : ℕ). take (fed + k) values') all ∙ put-taken values values' part fed here (omega arith) in
+    let room : length values' - (fed + n) ≡ length values - fed - length part = omega (arith, here.size) in
+    let from : SummerState = record { kernel = masses; values = take fed values; room = length values - fed; start = start } in
+    let to : SummerState = record { kernel = masses; values = take fed values ++ part; room = length values' - (fed + n); start = start } in
+    ◌∙◌ {b = to} (ap (λ (vs : List ℕ). record { kernel = masses; values = vs; room = length values' - (fed + n); start = start }) held)
+    (◌∙◌ {b = fed_all part from} (ap (λ (r : ℕ). record { kernel = masses; values = take fed values ++ part; room = r; start = start }) room)
+    (ap (λ (s : SummerState). fed_all part s) view))
 
 -- some values and then more are all of them
 fed_all-append : (xs ys : List ℕ) (s : SummerState) → fed_all ys (fed_all xs s) ≡ fed_all (xs ++ ys) s

@@ -1,5 +1,6 @@
 -- What a summer means, and what it answers.
-use Rattle.std.specs.Prelude.{ℕ, ◌≡◌, ◌+◌, ◌-◌, ◌*◌, ◌<◌, ◌≤◌, ◌⊎◌, min, List, [], ◌∷◌, ◌++◌, map, slice_index, length}
+use Rattle.std.specs.Prelude.{ℕ, ◌≡◌, ◌+◌, ◌-◌, ◌*◌, ◌<◌, ◌≤◌, ◌⊎◌, min, List, [], ◌∷◌, ◌++◌, map}
+use Rattle.std.specs.Prelude.{slice_index, length}
 use Rattle.std.specs.List.{range_with_len}
 use Rattle.sota_hist.specs.Time.{least_tick, mass_at, span}
 use Rattle.sota_block.specs.Product.{sum_below}

@@ -56,17 +56,12 @@ pub returns-then-ends_block-clause-state : goal.returns-then-ends_block-clause-s
 returns-then-ends_block-clause-state g c =
     let s = c.self.inside in
     let n : ℕ = c.min-count.result in
-    let part : List ℕ = take n c.args.values.now in
-    let put = put-whole s.values.items c.deref_mut.result.now c.put.new.into s.values.len s.fed _ n (λ k. slice_index part k) c.put.ensures.put c.deref_mut.ensures.value (omega (arith, length-take n c.args.values.now)) s.values.ok.0 in
-    let left : length s.values.items - s.fed ≡ c.args.self.now.room = ap (λ (x : SummerState). x.room) c.self.view_is in
-    put-state s.masses.items s.values.items _ part s.fed s.start n c.args.self.now put (omega (arith, length-take n c.args.values.now)) (omega arith) c.self.view_is
-
+    put-state s.masses.items s.values.items _ c.put.new.into (take n c.args.values.now) s.values.len s.fed s.start n _ c.args.self.now c.put.ensures.put c.deref_mut.ensures.value
+    (omega (arith, length-take n c.args.values.now)) (omega (arith, length-take n c.args.values.now)) s.values.ok.0 (omega arith) c.self.invariant.fed_le c.self.view_is
 
 pub returns-else-ends_block-clause-state : goal.returns-else-ends_block-clause-state
 returns-else-ends_block-clause-state g c =
     let s = c.self.inside in
     let n : ℕ = c.min-count.result in
-    let part : List ℕ = take n c.args.values.now in
-    let put = put-whole s.values.items c.deref_mut.result.now c.put.new.into s.values.len s.fed _ n (λ k. slice_index part k) c.put.ensures.put c.deref_mut.ensures.value (omega (arith, length-take n c.args.values.now)) s.values.ok.0 in
-    let left : length s.values.items - s.fed ≡ c.args.self.now.room = ap (λ (x : SummerState). x.room) c.self.view_is in
-    put-state s.masses.items s.values.items _ part s.fed s.start n c.args.self.now put (omega (arith, length-take n c.args.values.now)) (omega arith) c.self.view_is
+    put-state s.masses.items s.values.items _ c.put.new.into (take n c.args.values.now) s.values.len s.fed s.start n _ c.args.self.now c.put.ensures.put c.deref_mut.ensures.value
+    (omega (arith, length-take n c.args.values.now)) (omega (arith, length-take n c.args.values.now)) s.values.ok.0 (omega arith) c.self.invariant.fed_le c.self.view_is
