@@ -1,9 +1,8 @@
 // A bracket file that was made by hand, and each fault once.
 use super::*;
-use crate::tests::{Case, changed};
+use crate::tests::{Case, faults_are};
 use sota_units::NoMemory;
 use std::alloc::{AllocError, Global};
-use std::process::Abort;
 use std::test::Fail;
 
 // From 1 to 3 in 3 ticks: two rows of two entries, and none at the destination.
@@ -166,20 +165,7 @@ const FAULTS: [Case; 18] = [
     (133, 0, SOTA, PolicyFault::Trailing(132)),
 ];
 
-/// Files that differ so from the city's have these faults.
-fn faults_are(rt: &impl Abort, alloc: Global, cases: &[Case]) -> Result<(), Fail> {
-    for (len, place, number, fault) in cases {
-        let bytes = changed(alloc, &CITY, *len, *place, *number)?;
-        assert_eq!(rt;
-            fault_of(alloc, &bytes),
-            Some(*fault),
-            "{number} at {place} of {len}"
-        );
-    }
-    Ok(())
-}
-
 #[test]
 fn bracket_faults(rt: HostRuntime) -> Result<(), Fail> {
-    faults_are(&rt, rt.alloc(), &FAULTS)
+    faults_are(&rt, rt.alloc(), &CITY, fault_of, &FAULTS)
 }

@@ -216,7 +216,7 @@ fn put(bytes: &mut [u8], place: usize, number: u32) {
 pub(crate) type Case = (usize, usize, u32, PolicyFault);
 
 /// The first bytes of a file, so many, or zeros after all of them, with a number at a place.
-pub(crate) fn changed(
+fn changed(
     alloc: Global,
     file: &[u8],
     len: usize,
@@ -268,14 +268,22 @@ const FAULTS: [Case; 25] = [
     (105, 0, 0x534f_5441, PolicyFault::Trailing(104)),
 ];
 
-/// Files that differ so from the city's have these faults.
-fn faults_are(rt: &impl Abort, alloc: Global, cases: &[Case]) -> Result<(), Fail> {
+/// Files that differ so from this one have these faults.
+pub(crate) fn faults_are<F: Fn(Global, &[u8]) -> Option<PolicyFault>>(
+    rt: &impl Abort,
+    alloc: Global,
+    file: &[u8],
+    fault_of: F,
+    cases: &[Case],
+) -> Result<(), Fail>
+    requires { F.IsAlwaysCallable fault_of }
+{
     for (len, place, number, fault) in cases {
-        let bytes = changed(alloc, &CITY, *len, *place, *number)?;
+        let bytes = changed(alloc, file, *len, *place, *number)?;
         assert_eq!(rt;
             fault_of(alloc, &bytes),
             Some(*fault),
-            "{number} at {place}"
+            "{number} at {place} of {len}"
         );
     }
     Ok(())
@@ -283,7 +291,7 @@ fn faults_are(rt: &impl Abort, alloc: Global, cases: &[Case]) -> Result<(), Fail
 
 #[test]
 fn faults(rt: HostRuntime) -> Result<(), Fail> {
-    faults_are(&rt, rt.alloc(), &FAULTS)?;
+    faults_are(&rt, rt.alloc(), &CITY, fault_of, &FAULTS)?;
     let mut bytes = changed(rt.alloc(), &CITY, 104, 36, u32::MAX)?;
     put(&mut bytes, 40, u32::MAX);
     assert_eq!(rt; fault_of(rt.alloc(), &bytes), Some(PolicyFault::Range(1)));
