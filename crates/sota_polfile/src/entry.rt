@@ -1,8 +1,8 @@
-// The entries of a row.
-ghost use Rattle.std.specs.Prelude.{◌≡◌, ◌==◌, All, length};
+// The entries of a policy's row.
+ghost use Rattle.std.specs.Prelude.{◌≡◌};
 ghost use Rattle.sota_polfile.specs.Entry.{IsEntry};
 
-use std::marker::Model;
+use crate::entry_list::{Entries, Entry};
 
 /// What to do at a node with a remaining budget.
 #[derive(Clone, Copy, Debug, PartialEq, Eq)]
@@ -13,25 +13,14 @@ pub struct PolicyEntry {
     pub value: u64,
 }
 
-/// The entries of a row, one for each budget from the row's first on. Contracts see the list.
-#[derive(Drop)]
-pub struct PolicyEntries {
-    list: Vec<PolicyEntry>,
+/// The entries of a policy's row.
+pub type PolicyEntries = Entries<PolicyEntry>;
+
+impl Entry for PolicyEntry {
+    ghost is_entry = { IsEntry };
 }
 
-impl Model for PolicyEntries {
-    ghost use Rattle.std.specs.Prelude.{List, All};
-    ghost use Rattle.sota_polfile.specs.declared.entry.PolicyEntry.{PolicyEntry};
-    ghost use Rattle.sota_polfile.specs.Entry.{IsEntry};
-
-    ghost Value = { List PolicyEntry };
-
-    ghost view = { λ a. a.list.items };
-
-    ghost invariant = { λ a. All IsEntry a.list.items };
-}
-
-impl PolicyEntries {
+impl Entries<PolicyEntry> {
     /// These entries. It takes no memory.
     pub fn new(list: Vec<PolicyEntry>) -> PolicyEntries
         ensures { result ≡ list.items }
@@ -41,37 +30,6 @@ impl PolicyEntries {
             list.iter()
                 .all(|entry| entry.arc <= u32::MAX && entry.value <= u64::MAX)
         );
-        PolicyEntries { list }
-    }
-
-    /// The entries as a vector again. It takes no memory.
-    pub fn into_vec(self) -> Vec<PolicyEntry>
-        ensures { result.items ≡ self }
-    {
-        let PolicyEntries { list } = self;
-        list
-    }
-
-    /// The entries.
-    pub fn as_slice(&self) -> &[PolicyEntry]
-        ensures value { result.now ≡ self.now }
-        ensures valid { All IsEntry self.now }
-    {
-        self.list.as_slice()
-    }
-
-    /// How many there are.
-    pub fn len(&self) -> usize
-        ensures value { result ≡ length self.now }
-        ensures valid { All IsEntry self.now }
-    {
-        self.list.len()
-    }
-
-    /// There are none.
-    pub fn is_empty(&self) -> bool
-        ensures { result ≡ (length self.now == 0) }
-    {
-        self.list.is_empty()
+        Entries { list }
     }
 }

@@ -9,6 +9,7 @@ mod bracket_row;
 mod bracket_table;
 mod bracket_writing;
 mod entry;
+mod entry_list;
 mod fault;
 mod head;
 mod laws;
