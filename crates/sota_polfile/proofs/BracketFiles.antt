@@ -104,7 +104,7 @@ clean_spelled bytes fits clean =
     let all = rows_take bytes 0 n fits clean.head.long clean.rows_pass in
     let zero_more : 0 + n ≡ n = omega arith in
     let none : drop (bracket_start bytes (0 + n)) bytes ≡ [] = rw zero_more (drop_all (bracket_start bytes n) bytes clean.ends) in
-    let rows : drop 28 bytes ≡ flat_map spelled_bracket_row (bracket_rows_at bytes 0 n) = all.text ∙ ap (λ (t : List ℕ). flat_map spelled_bracket_row (bracket_rows_at bytes 0 n) ++ t) none ∙ append-nil (flat_map spelled_bracket_row (bracket_rows_at bytes 0 n)) in (
+    let rows : drop 28 bytes ≡ flat_map spelled_bracket_row (bracket_rows_at bytes 0 n) = all.spelled.text ∙ ap (λ (t : List ℕ). flat_map spelled_bracket_row (bracket_rows_at bytes 0 n) ++ t) none ∙ append-nil (flat_map spelled_bracket_row (bracket_rows_at bytes 0 n)) in (
       record {
         head = head_fits (head_at bytes) clean.head.head;
         size = length-map-range_with_len _ 0 n;

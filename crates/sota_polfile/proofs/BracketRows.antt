@@ -18,7 +18,8 @@ use Rattle.sota_polfile.specs.Places.{number_at, head_at}
 use Rattle.sota_polfile.specs.BracketFile.{spelled_bracket_entry, spelled_bracket_row, part_at, part_fault, bracket_entries_at, bracket_row_at, bracket_start, bracket_rows_at, bracket_row_fault_at, bracket_row_fault, bracket_file_rows_fault}
 use Rattle.sota_polfile.proofs.Numbers.{IsBytes, wide32, moved, room, number_again, number_takes}
 use Rattle.sota_polfile.proofs.Entries.{length-bracket_entries, bracket_entries_again, bracket_entries_take}
-use Rattle.sota_polfile.proofs.FileFaults.{sized_none, sized_passes, among_passed, among_parts, among_none}
+use Rattle.sota_polfile.proofs.FileFaults.{sized_none, sized_passes, among_parts}
+use Rattle.sota_polfile.proofs.Runs.{AllStand, none_stand, more_stand, AllSpelled, none_spelled, more_spelled}
 use Rattle.sota_polfile.proofs.BracketParts.{AreParts, part_none, none_part, part_bound}
 
 -- ---- one row
@@ -94,43 +95,25 @@ start_after bytes k = rw add-one refl
 
 -- ---- rows one after the other
 
--- rows that were spelled from row k on
-pub record AllStand (bytes rest : List ℕ) (k : ℕ) (rows : List BracketRow) : Type 0 where
-  pub none : bracket_file_rows_fault bytes k (length rows) ≡ None
-  pub are : bracket_rows_at bytes k (length rows) ≡ rows
-  pub behind : drop (bracket_start bytes (k + length rows)) bytes ≡ rest
-
-pub rows_again : (bytes rest : List ℕ) (k : ℕ) (rows : List BracketRow) → IsHead (head_at bytes) → AreParts (head_at bytes) (k + 1) rows → AllByRecursion (λ row. All IsBracketEntry row.entries) rows → drop (bracket_start bytes k) bytes ≡ flat_map spelled_bracket_row rows ++ rest → AllStand bytes rest k rows
-rows_again bytes rest k [] head parts entries e = record { none = among_none (bracket_row_fault bytes) k; are = refl; behind = rw (zero_more k) e }
-  where
-    zero_more : (k : ℕ) → k + 0 ≡ k
-    zero_more k = omega arith
+pub rows_again : (bytes rest : List ℕ) (k : ℕ) (rows : List BracketRow) → IsHead (head_at bytes) → AreParts (head_at bytes) (k + 1) rows → AllByRecursion (λ row. All IsBracketEntry row.entries) rows → drop (bracket_start bytes k) bytes ≡ flat_map spelled_bracket_row rows ++ rest → AllStand bytes (bracket_start bytes) (λ j. bracket_row_at bytes (bracket_start bytes j)) (bracket_row_fault bytes) rest k rows
+rows_again bytes rest k [] head parts entries e = none_stand _ _ _ _ _ k e
 rows_again bytes rest k (row ∷ rows) head parts entries e =
-    let at : ℕ = bracket_start bytes k in
     let few = part_bound (head_at bytes) (part_head (k + 1) row) head parts.0 in
     let one = row_again bytes (flat_map spelled_bracket_row rows ++ rest) (bracket_start bytes k) row (omega (arith, parts.0.first)) (omega (arith, few)) (recursion_from_All IsBracketEntry row.entries entries.0) (e ∙ append_assoc (spelled_bracket_row row) (flat_map spelled_bracket_row rows) rest) in
     let count : number_at w32 bytes (bracket_start bytes k + 4) ≡ length row.entries = ap (λ (r : RowHead). r.count) (one.numbers 0) in
     let next : bracket_start bytes (k + 1) ≡ bracket_start bytes k + 8 + 20 * length row.entries = start_after bytes k ∙ ap (λ (n : ℕ). bracket_start bytes k + 8 + 20 * n) count in
     let others = rows_again bytes rest (k + 1) rows head parts.1 entries.1 (rw next one.behind) in
     let here : bracket_row_fault bytes k ≡ None = no_fault bytes (head_at bytes) (k + 1) (bracket_start bytes k) (part_head (k + 1) row) (one.numbers (k + 1)) (none_part (head_at bytes) (part_head (k + 1) row) parts.0) one.within in
-    let end : k + suc (length rows) ≡ k + 1 + length rows = omega arith in
-    record {
-      none = among_passed (bracket_row_fault bytes) k (length rows) here ∙ others.none;
-      are = rw (one.is, others.are) refl;
-      behind = rw end others.behind;
-    }
+    more_stand _ _ _ _ _ k row rows here one.is others
 
 -- rows without fault from row k on
 pub record AllPass (bytes : List ℕ) (k n : ℕ) : Type 0 where
-  pub text : drop (bracket_start bytes k) bytes ≡ flat_map spelled_bracket_row (bracket_rows_at bytes k n) ++ drop (bracket_start bytes (k + n)) bytes
-  pub within : bracket_start bytes (k + n) ≤ length bytes
+  pub spelled : AllSpelled bytes (bracket_start bytes) (λ j. bracket_row_at bytes (bracket_start bytes j)) spelled_bracket_row k n
   pub parts : AreParts (head_at bytes) (k + 1) (bracket_rows_at bytes k n)
   pub entries : AllByRecursion (λ row. All IsBracketEntry row.entries) (bracket_rows_at bytes k n)
 
 pub rows_take : (bytes : List ℕ) (k n : ℕ) → IsBytes bytes → bracket_start bytes k ≤ length bytes → bracket_file_rows_fault bytes k n ≡ None → AllPass bytes k n
-rows_take bytes k zero fits within none =
-    let same : k + 0 ≡ k = omega arith in
-    record { text = rw same refl; within = rw same within; parts = tt; entries = tt }
+rows_take bytes k zero fits within none = record { spelled = none_spelled _ _ _ _ k within; parts = tt; entries = tt }
 rows_take bytes k (suc n) fits within none =
     let row = bracket_row_at bytes (bracket_start bytes k) in
     let both = among_parts (bracket_row_fault bytes) k n none in
@@ -138,12 +121,9 @@ rows_take bytes k (suc n) fits within none =
     let one = row_takes bytes (bracket_start bytes k) fits here.within in
     let next = start_after bytes k in
     let others = rows_take bytes (k + 1) n fits (rw next here.within) both.1 in
-    let end : k + suc n ≡ k + 1 + n = omega arith in
     let count : length row.entries ≡ number_at w32 bytes (bracket_start bytes k + 4) = length-map-range_with_len _ 0 (number_at w32 bytes (bracket_start bytes k + 4)) in
-    let behind : drop (bracket_start bytes k + 8 + 20 * number_at w32 bytes (bracket_start bytes k + 4)) bytes ≡ flat_map spelled_bracket_row (bracket_rows_at bytes (k + 1) n) ++ drop (bracket_start bytes (k + 1 + n)) bytes = rw next at others.text in
     record {
-      text = rw end (one.0 ∙ ap (λ (t : List ℕ). spelled_bracket_row row ++ t) behind ∙ sym (append_assoc (spelled_bracket_row row) (flat_map spelled_bracket_row (bracket_rows_at bytes (k + 1) n)) (drop (bracket_start bytes (k + 1 + n)) bytes)));
-      within = rw end others.within;
+      spelled = more_spelled _ _ _ _ k n (rw next one.0) others.spelled;
       parts = (rw count here.fits, others.parts);
       entries = (All-from_recursion IsBracketEntry row.entries one.1, others.entries);
     }

@@ -6,6 +6,7 @@ pub mod Heads
 pub mod Lists
 pub mod Entries
 pub mod FileFaults
+pub mod Runs
 pub mod Rows
 pub mod Files
 pub mod Cuts

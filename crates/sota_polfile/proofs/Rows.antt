@@ -17,7 +17,8 @@ use Rattle.sota_polfile.specs.Places.{number_at, head_at, row_head_at, entries_a
 use Rattle.sota_polfile.specs.Faults.{is_unordered, row_fault_at, row_fault, file_rows_fault, numbers_fault}
 use Rattle.sota_polfile.proofs.Numbers.{IsBytes, wide32, moved, room, number_again, number_takes, number_below}
 use Rattle.sota_polfile.proofs.Entries.{length-entries, entries_again, entries_take}
-use Rattle.sota_polfile.proofs.FileFaults.{sized_none, sized_cut, sized_passes, among_passed, among_parts, among_none}
+use Rattle.sota_polfile.proofs.FileFaults.{sized_none, sized_cut, sized_passes, among_parts}
+use Rattle.sota_polfile.proofs.Runs.{AllStand, none_stand, more_stand, AllSpelled, none_spelled, more_spelled}
 use Rattle.sota_polfile.proofs.Rules.{Rises, numbers_fit, fit_numbers}
 
 -- the numbers of a row have four bytes each
@@ -135,17 +136,8 @@ node_before_after bytes k = rw add-one refl
 
 -- ---- rows one after the other
 
--- rows that were spelled from row k on
-pub record AllStand (bytes rest : List ℕ) (k : ℕ) (rows : List PolicyRow) : Type 0 where
-  pub none : file_rows_fault bytes k (length rows) ≡ None
-  pub are : rows_at bytes k (length rows) ≡ rows
-  pub behind : drop (start bytes (k + length rows)) bytes ≡ rest
-
-pub rows_again : (bytes rest : List ℕ) (k : ℕ) (rows : List PolicyRow) → IsHead (head_at bytes) → AllByRecursion (IsRow (head_at bytes)) rows → Rises (node_before bytes k) (nodes rows) → drop (start bytes k) bytes ≡ flat_map spelled_row rows ++ rest → AllStand bytes rest k rows
-rows_again bytes rest k [] head are up e = record { none = among_none (row_fault bytes) k; are = refl; behind = rw (zero_more k) e }
-  where
-    zero_more : (k : ℕ) → k + 0 ≡ k
-    zero_more k = omega arith
+pub rows_again : (bytes rest : List ℕ) (k : ℕ) (rows : List PolicyRow) → IsHead (head_at bytes) → AllByRecursion (IsRow (head_at bytes)) rows → Rises (node_before bytes k) (nodes rows) → drop (start bytes k) bytes ≡ flat_map spelled_row rows ++ rest → AllStand bytes (start bytes) (λ j. policy_row_at bytes (start bytes j)) (row_fault bytes) rest k rows
+rows_again bytes rest k [] head are up e = none_stand _ _ _ _ _ k e
 rows_again bytes rest k (row ∷ rows) head are up e =
     let at = start bytes k in
     let one = row_again bytes (flat_map spelled_row rows ++ rest) at row (row_fits (head_at bytes) (row_head row) head are.0.numbers) (recursion_from_All IsEntry row.entries are.0.entries) (e ∙ append_assoc (spelled_row row) (flat_map spelled_row rows) rest) in
@@ -155,24 +147,16 @@ rows_again bytes rest k (row ∷ rows) head are up e =
     let before : node_before bytes (k + 1) ≡ Some row.node = node_before_after bytes k ∙ ap (λ (n : ℕ). Some n) node in
     let others = rows_again bytes rest (k + 1) rows head are.1 (rw before up.1) (rw next one.behind) in
     let here : row_fault bytes k ≡ None = no_fault bytes (head_at bytes) at (node_before bytes k) (k + 1) (row_head row) one.numbers up.0 are.0.numbers one.within in
-    let end : k + suc (length rows) ≡ k + 1 + length rows = omega arith in
-    record {
-      none = among_passed (row_fault bytes) k (length rows) here ∙ others.none;
-      are = rw (one.is, others.are) refl;
-      behind = rw end others.behind;
-    }
+    more_stand _ _ _ _ _ k row rows here one.is others
 
 -- rows without fault from row k on
 pub record AllPass (bytes : List ℕ) (k n : ℕ) : Type 0 where
-  pub text : drop (start bytes k) bytes ≡ flat_map spelled_row (rows_at bytes k n) ++ drop (start bytes (k + n)) bytes
-  pub within : start bytes (k + n) ≤ length bytes
+  pub spelled : AllSpelled bytes (start bytes) (λ j. policy_row_at bytes (start bytes j)) spelled_row k n
   pub are : AllByRecursion (IsRow (head_at bytes)) (rows_at bytes k n)
   pub up : Rises (node_before bytes k) (nodes (rows_at bytes k n))
 
 pub rows_take : (bytes : List ℕ) (k n : ℕ) → IsBytes bytes → start bytes k ≤ length bytes → file_rows_fault bytes k n ≡ None → AllPass bytes k n
-rows_take bytes k zero fits within none =
-    let same : k + 0 ≡ k = omega arith in
-    record { text = rw same refl; within = rw same within; are = tt; up = tt }
+rows_take bytes k zero fits within none = record { spelled = none_spelled _ _ _ _ k within; are = tt; up = tt }
 rows_take bytes k (suc n) fits within none =
     let at = start bytes k in
     let head = row_head_at bytes at in
@@ -182,13 +166,10 @@ rows_take bytes k (suc n) fits within none =
     let one = row_takes bytes at fits here.within in
     let next = start_after bytes k in
     let others = rows_take bytes (k + 1) n fits (rw next here.within) parts.1 in
-    let end : k + suc n ≡ k + 1 + n = omega arith in
     let before = node_before_after bytes k in
     let count : length row.entries ≡ head.count = length-map-range_with_len _ 0 head.count in
-    let behind : drop (at + 12 + 12 * head.count) bytes ≡ flat_map spelled_row (rows_at bytes (k + 1) n) ++ drop (start bytes (k + 1 + n)) bytes = rw next at others.text in
     record {
-      text = rw end (one.0 ∙ ap (λ (t : List ℕ). spelled_row row ++ t) behind ∙ sym (append_assoc (spelled_row row) (flat_map spelled_row (rows_at bytes (k + 1) n)) (drop (start bytes (k + 1 + n)) bytes)));
-      within = rw end others.within;
+      spelled = more_spelled _ _ _ _ k n (rw next one.0) others.spelled;
       are = (record { numbers = rw count here.fits; entries = All-from_recursion IsEntry row.entries one.1 }, others.are);
       up = (here.up, rw before at others.up);
     }
