@@ -18,7 +18,7 @@ use Rattle.sota_polfile.specs.declared.row.RowHead.{RowHead}
 use Rattle.sota_polfile.specs.Table.{IsTable}
 use Rattle.sota_polfile.specs.Bracket.{Bracket, IsBracket, part_head}
 use Rattle.sota_polfile.specs.Spelling.{spelled_numbers, spelling}
-use Rattle.sota_polfile.specs.Places.{number_at, head_at}
+use Rattle.sota_polfile.specs.Places.{number_at, head_at, all_at}
 use Rattle.sota_polfile.specs.Faults.{is_head, fault_if, first_of, fault_or, policy_of}
 use Rattle.sota_polfile.specs.Faults.{sized_fault, fault_among, file_fault}
 
@@ -63,8 +63,7 @@ bracket_entry_at bytes at = record {
 }
 
 abbrev pub bracket_entries_at : List ℕ → ℕ → ℕ → List BracketEntry
-bracket_entries_at bytes at count =
-    map (λ i. bracket_entry_at bytes (at + 20 * i)) (range_with_len 0 count)
+bracket_entries_at bytes at count = all_at bracket_entry_at 20 bytes at count
 
 abbrev pub bracket_row_at : List ℕ → ℕ → BracketRow
 bracket_row_at bytes at = record {

@@ -34,8 +34,13 @@ row_head_at bytes at = record {
 abbrev pub entry_at : List ℕ → ℕ → PolicyEntry
 entry_at bytes at = record { arc = number_at w32 bytes at; value = number_at w64 bytes (at + 4) }
 
+-- so many of what has this length, one after the other from a place on
+abbrev pub all_at : {Item : Type 0} → (List ℕ → ℕ → Item) → ℕ → List ℕ → ℕ → ℕ → List Item
+all_at value_at long bytes at count =
+    map (λ i. value_at bytes (at + long * i)) (range_with_len 0 count)
+
 abbrev pub entries_at : List ℕ → ℕ → ℕ → List PolicyEntry
-entries_at bytes at count = map (λ i. entry_at bytes (at + 12 * i)) (range_with_len 0 count)
+entries_at bytes at count = all_at entry_at 12 bytes at count
 
 -- the entries, of twelve bytes each, after a row head of twelve bytes
 abbrev pub policy_row_at : List ℕ → ℕ → PolicyRow

@@ -5,15 +5,16 @@ ghost use Rattle.sota_units.specs.Memory.{Answers, IsFault};
 ghost use Rattle.sota_polfile.specs.Words.{is_shortage};
 ghost use Rattle.sota_polfile.specs.Places.{head_at};
 ghost use Rattle.sota_polfile.specs.Faults.{fault_or};
-ghost use Rattle.sota_polfile.specs.BracketFile.{bracket_entries_at, bracket_row_at, bracket_start};
+ghost use Rattle.sota_polfile.specs.BracketFile.{bracket_row_at, bracket_start};
 ghost use Rattle.sota_polfile.specs.BracketFile.{bracket_rows_at, bracket_row_fault_at};
 ghost use Rattle.sota_polfile.specs.BracketFile.{bracket_file_rows_fault, bracket_of};
 
 use crate::head::read_head;
+use crate::places::Stored;
 use crate::{
     BracketEntries, BracketEntry, BracketHead, BracketRow, BracketTable, PolicyFault, places,
 };
-use std::alloc::{AllocError, Global};
+use std::alloc::Global;
 
 pub(crate) const BRACKET_MAGIC: [u8; 8] = *b"SOTAPOL2";
 /// The length of a head in bytes.
@@ -21,24 +22,7 @@ const HEAD: usize = 28;
 /// The length of what stands before the entries of a node, in bytes.
 const PART: usize = 8;
 /// The length of an entry in bytes.
-const ENTRY: usize = 20;
-
-/// So many entries from this place on.
-fn entries_at(
-    alloc: Global,
-    bytes: &[u8],
-    at: usize,
-    count: usize,
-) -> Result<Vec<BracketEntry>, AllocError>
-    requires { at + 20 * count ≤ length bytes.now }
-    ensures { IfOk result (λ list. list.items ≡ bracket_entries_at bytes.now at count) }
-{
-    let mut list = Vec::with_capacity(alloc, count)?;
-    for i in 0..count {
-        list.push(places::bracket_entry_at(bytes, at + ENTRY * i))?;
-    }
-    Ok(list)
-}
+const ENTRY: usize = BracketEntry::LENGTH;
 
 /// The row of this node at this place.
 fn read_row(
@@ -64,7 +48,7 @@ fn read_row(
     if (whole as u64) < part.count {
         return Err(PolicyFault::Truncated((at + PART + ENTRY * whole) as u64));
     }
-    let entries = entries_at(alloc, bytes, at + PART, part.count as usize)?;
+    let entries = places::all_at(alloc, bytes, at + PART, part.count as usize)?;
     Ok(BracketRow {
         first: part.first,
         entries: BracketEntries::new(entries),

@@ -1,11 +1,13 @@
 // What stands at a place of a file.
-ghost use Rattle.std.specs.Prelude.{◌≡◌, ◌+◌, ◌≤◌, length};
+ghost use Rattle.std.specs.Prelude.{◌≡◌, ℕ, ◌+◌, ◌*◌, ◌≤◌, List, length, IfOk};
 ghost use Rattle.std.specs.Int.{w32, w64};
 ghost use Rattle.sota_polfile.specs.Places.{number_at, head_at, row_count, row_head_at, entry_at};
+ghost use Rattle.sota_polfile.specs.Places.{all_at};
 ghost use Rattle.sota_polfile.specs.BracketFile.{part_at, bracket_entry_at};
 
 use crate::row::RowHead;
 use crate::{BracketEntry, PolicyEntry, PolicyHead};
+use std::alloc::{AllocError, Global};
 
 #[tactic(auto, unfolding(crate::specs::Places::number_at))]
 fn u32_at(bytes: &[u8], at: usize) -> u32
@@ -61,17 +63,6 @@ pub(crate) fn row_head_at(bytes: &[u8], at: usize) -> RowHead
     }
 }
 
-/// The entry at this place.
-pub(crate) fn entry_at(bytes: &[u8], at: usize) -> PolicyEntry
-    requires { at + 12 ≤ length bytes.now }
-    ensures { result ≡ entry_at bytes.now at }
-{
-    PolicyEntry {
-        arc: u32_at(bytes, at),
-        value: u64_at(bytes, at + 4),
-    }
-}
-
 /// What stands at this place before the entries of a node.
 pub(crate) fn part_at(bytes: &[u8], node: u32, at: usize) -> RowHead
     requires { at + 8 ≤ length bytes.now }
@@ -84,14 +75,66 @@ pub(crate) fn part_at(bytes: &[u8], node: u32, at: usize) -> RowHead
     }
 }
 
-/// The entry of a bracket file at this place.
-pub(crate) fn bracket_entry_at(bytes: &[u8], at: usize) -> BracketEntry
-    requires { at + 20 ≤ length bytes.now }
-    ensures { result ≡ bracket_entry_at bytes.now at }
-{
-    BracketEntry {
-        arc: u32_at(bytes, at),
-        lower: u64_at(bytes, at + 4),
-        upper: u64_at(bytes, at + 12),
+/// What stands in a file in a fixed number of bytes.
+pub(crate) trait Stored: Copy {
+    /// What stands at a place of a list of bytes.
+    ghost value_at: { List ℕ → ℕ → Self };
+
+    ghost LENGTH: { ℕ };
+
+    /// How many bytes it has.
+    const LENGTH: usize;
+
+    /// What stands at this place.
+    fn read(bytes: &[u8], at: usize) -> Self
+        requires { at + LENGTH ≤ length bytes.now }
+        ensures { result ≡ value_at bytes.now at };
+}
+
+impl Stored for PolicyEntry {
+    ghost value_at = { entry_at };
+
+    ghost LENGTH = { 12 };
+
+    const LENGTH: usize = 12;
+
+    fn read(bytes: &[u8], at: usize) -> PolicyEntry {
+        PolicyEntry {
+            arc: u32_at(bytes, at),
+            value: u64_at(bytes, at + 4),
+        }
     }
+}
+
+impl Stored for BracketEntry {
+    ghost value_at = { bracket_entry_at };
+
+    ghost LENGTH = { 20 };
+
+    const LENGTH: usize = 20;
+
+    fn read(bytes: &[u8], at: usize) -> BracketEntry {
+        BracketEntry {
+            arc: u32_at(bytes, at),
+            lower: u64_at(bytes, at + 4),
+            upper: u64_at(bytes, at + 12),
+        }
+    }
+}
+
+/// So many of them, one after the other from this place on.
+pub(crate) fn all_at<T: Stored>(
+    alloc: Global,
+    bytes: &[u8],
+    at: usize,
+    count: usize,
+) -> Result<Vec<T>, AllocError>
+    requires { at + T.LENGTH * count ≤ length bytes.now }
+    ensures { IfOk result (λ list. list.items ≡ all_at T.value_at T.LENGTH bytes.now at count) }
+{
+    let mut list = Vec::with_capacity(alloc, count)?;
+    for i in 0..count {
+        list.push(T::read(bytes, at + T::LENGTH * i))?;
+    }
+    Ok(list)
 }

@@ -6,12 +6,13 @@ ghost use Rattle.sota_polfile.specs.Limits.{POLICY_LIMIT};
 ghost use Rattle.sota_polfile.specs.Words.{is_shortage};
 ghost use Rattle.sota_polfile.specs.Table.{Table, IsTable};
 ghost use Rattle.sota_polfile.specs.Spelling.{spelling};
-ghost use Rattle.sota_polfile.specs.Places.{head_at, entries_at, policy_row_at, rows_at, start};
+ghost use Rattle.sota_polfile.specs.Places.{head_at, policy_row_at, rows_at, start};
 ghost use Rattle.sota_polfile.specs.Faults.{row_fault_at, file_rows_fault, policy_of, fault_or};
 
 use crate::head::read_head;
+use crate::places::Stored;
 use crate::{PolicyEntries, PolicyEntry, PolicyFault, PolicyHead, PolicyRow, PolicyTable, places};
-use std::alloc::{AllocError, Global};
+use std::alloc::Global;
 
 const MAGIC: [u8; 8] = *b"SOTAPOL1";
 /// The length of a head in bytes.
@@ -19,24 +20,7 @@ const HEAD: usize = 32;
 /// The length of a row head in bytes.
 const ROW_HEAD: usize = 12;
 /// The length of an entry in bytes.
-const ENTRY: usize = 12;
-
-/// So many entries from this place on.
-fn entries_at(
-    alloc: Global,
-    bytes: &[u8],
-    at: usize,
-    count: usize,
-) -> Result<Vec<PolicyEntry>, AllocError>
-    requires { at + 12 * count ≤ length bytes.now }
-    ensures { IfOk result (λ list. list.items ≡ entries_at bytes.now at count) }
-{
-    let mut list = Vec::with_capacity(alloc, count)?;
-    for i in 0..count {
-        list.push(places::entry_at(bytes, at + ENTRY * i))?;
-    }
-    Ok(list)
-}
+const ENTRY: usize = PolicyEntry::LENGTH;
 
 /// The row of this number at this place, after a row of the node `before`.
 fn read_row(
@@ -63,7 +47,7 @@ fn read_row(
     if (whole as u64) < row.count {
         return Err(PolicyFault::Truncated((at + ROW_HEAD + ENTRY * whole) as u64));
     }
-    let entries = entries_at(alloc, bytes, at + ROW_HEAD, row.count as usize)?;
+    let entries = places::all_at(alloc, bytes, at + ROW_HEAD, row.count as usize)?;
     Ok(PolicyRow {
         node: row.node,
         first: row.first,
