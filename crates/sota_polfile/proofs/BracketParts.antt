@@ -139,11 +139,11 @@ pub head_passes : (head : PolicyHead) (rows : List BracketRow) → is_head head 
 unfolding bracket_parts_fault
 head_passes head rows e = first_of_passed (not (is_head head)) (Range 0) _ (not_from_true _ e) ∙ first_of_one _
 
-pub faulty_head : (head : PolicyHead) (rows : List BracketRow) → is_head head ≡ false → IsBracket (record { head = head; rows = rows }) → ⊥
-faulty_head head rows e h = let good : is_head head ≡ true = fit_head head h.head in cc
-
-pub faulty_rows : (head : PolicyHead) (rows : List BracketRow) (fault : PolicyFault) → Some fault ≡ bracket_rows_fault head 1 rows → IsBracket (record { head = head; rows = rows }) → ⊥
-faulty_rows head rows fault e h = let none = fit_rows head 1 rows (from_places head 1 rows h.rows).0 in cc
+pub faulty : (head : PolicyHead) (rows : List BracketRow) (fault : PolicyFault) → Some fault ≡ bracket_parts_fault head rows → IsBracket (record { head = head; rows = rows }) → ⊥
+faulty head rows fault e h =
+    let passes = head_passes head rows (fit_head head h.head) in
+    let none = fit_rows head 1 rows (from_places head 1 rows h.rows).0 in
+    cc
 
 -- ---- how large a table is
 

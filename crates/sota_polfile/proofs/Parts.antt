@@ -46,11 +46,11 @@ is_table head rows fits are entries = record {
 pub parts_are : (head : PolicyHead) (rows : List PolicyRow) → IsHead head → None ≡ rows_fault head None 1 (map row_head rows) → All (λ row. All IsEntry row.entries) rows → IsTable (record { head = head; rows = rows })
 parts_are head rows fits none entries = is_table head rows fits (rows_fit head None 1 rows (sym none)) entries
 
-pub faulty_head : (head : PolicyHead) (rows : List PolicyRow) → is_head head ≡ false → IsTable (record { head = head; rows = rows }) → ⊥
-faulty_head head rows e h = let good : is_head head ≡ true = fit_head head h.head in cc
-
-pub faulty_rows : (head : PolicyHead) (rows : List PolicyRow) (fault : PolicyFault) → Some fault ≡ rows_fault head None 1 (map row_head rows) → IsTable (record { head = head; rows = rows }) → ⊥
-faulty_rows head rows fault e h = let none = fit_rows head None 1 rows (table_rows (record { head = head; rows = rows }) h) in cc
+pub faulty : (head : PolicyHead) (rows : List PolicyRow) (fault : PolicyFault) → Some fault ≡ parts_fault head rows → IsTable (record { head = head; rows = rows }) → ⊥
+faulty head rows fault e h =
+    let passes = head_passes head rows (fit_head head h.head) in
+    let none = fit_rows head None 1 rows (table_rows (record { head = head; rows = rows }) h) in
+    cc
 
 -- ---- how large a table is
 

@@ -1,11 +1,8 @@
 // A bracket in memory.
-ghost use Rattle.std.specs.Prelude.{◌≡◌, ◌+◌, ◌*◌, ◌≤◌, ◌↔◌, All, length, IsOk, IfOk, IfErr};
+ghost use Rattle.std.specs.Prelude.{◌≡◌, ◌+◌, ◌*◌, ◌≤◌, ◌↔◌, length, IsOk, IfOk, IfErr};
 ghost use Rattle.std.specs.Prelude.{IfNone, Some};
-ghost use Rattle.sota_polfile.specs.Entry.{IsBracketEntry};
-ghost use Rattle.sota_polfile.specs.Table.{IsHead};
 ghost use Rattle.sota_polfile.specs.Bracket.{IsBracket, bracket_cells};
-ghost use Rattle.sota_polfile.specs.BracketFile.{is_part, part_fault, bracket_rows_fault};
-ghost use Rattle.sota_polfile.specs.BracketFile.{bracket_parts_fault};
+ghost use Rattle.sota_polfile.specs.BracketFile.{is_part, part_fault, bracket_parts_fault};
 
 use crate::row::RowHead;
 use crate::{BracketHead, BracketRow, PolicyFault};
@@ -56,13 +53,15 @@ impl RowHead {
     }
 }
 
-/// The fault of the first row that has one.
-fn rows_fault(head: &BracketHead, rows: &[BracketRow]) -> Option<PolicyFault>
-    requires head { IsHead head.now }
-    requires size { length rows.now ≡ head.now.nodes }
-    ensures value { result ≡ bracket_rows_fault head.now 1 rows.now }
-    ensures entries { IfNone result (All (λ row. All IsBracketEntry row.entries) rows.now) }
+/// The fault of the head, or else of the first row that has one.
+fn parts_fault(head: &BracketHead, rows: &[BracketRow]) -> Option<PolicyFault>
+    requires { length rows.now ≡ head.now.nodes }
+    ensures value { result ≡ bracket_parts_fault head.now rows.now }
+    ensures valid { IfNone result (IsBracket (record { head = head.now; rows = rows.now })) }
 {
+    if !head.is_in_range() {
+        return Some(PolicyFault::Range(0));
+    }
     let mut node = 1;
     for row in rows {
         if let Some(fault) = row.numbers(node).part_fault(head) {
@@ -82,13 +81,10 @@ impl BracketTable {
         ensures valid { IsOk result ↔ IsBracket (record { head = head; rows = rows.items }) }
         ensures fault { IfErr result (λ fault. bracket_parts_fault head rows.items ≡ Some fault) }
     {
-        if !head.is_in_range() {
-            return Err(PolicyFault::Range(0));
+        match parts_fault(&head, &rows) {
+            Some(fault) => Err(fault),
+            None => Ok(BracketTable { head, rows }),
         }
-        if let Some(fault) = rows_fault(&head, &rows) {
-            return Err(fault);
-        }
-        Ok(BracketTable { head, rows })
     }
 
     /// Whose table it is.

@@ -1,14 +1,13 @@
 // A policy in memory.
-ghost use Rattle.std.specs.Prelude.{ℕ, ◌≡◌, ◌==◌, ◌*◌, ◌<◌, ◌≤◌, ◌↔◌, All, length, slice_get, map};
+ghost use Rattle.std.specs.Prelude.{ℕ, ◌≡◌, ◌==◌, ◌*◌, ◌<◌, ◌≤◌, ◌↔◌, length, slice_get};
 ghost use Rattle.std.specs.Prelude.{IsOk, IfOk, IfErr, OnErr, IfNone, None, Some};
 ghost use Rattle.std.specs.Option.{option_copied};
 ghost use Rattle.std.specs.List.{find};
 ghost use Rattle.std.specs.List.Sorted.{IsStrictlyIncreasing};
-ghost use Rattle.sota_polfile.specs.Entry.{IsEntry};
 ghost use Rattle.sota_polfile.specs.declared.row.PolicyRow.{PolicyRow};
-ghost use Rattle.sota_polfile.specs.Table.{Table, IsHead, IsTable, row_head, nodes, cells};
+ghost use Rattle.sota_polfile.specs.Table.{Table, IsTable, cells};
 ghost use Rattle.sota_polfile.specs.Table.{entry_of};
-ghost use Rattle.sota_polfile.specs.Faults.{rows_fault, parts_fault};
+ghost use Rattle.sota_polfile.specs.Faults.{parts_fault};
 
 use crate::{PolicyEntry, PolicyFault, PolicyHead, PolicyRow};
 use std::marker::Model;
@@ -30,12 +29,14 @@ impl Model for PolicyTable {
     ghost invariant = { λ a. IsTable (record { head = a.head; rows = a.rows.items }) };
 }
 
-/// The fault of the first row that has one.
-fn rows_fault(head: &PolicyHead, rows: &[PolicyRow]) -> Option<PolicyFault>
-    requires { IsHead head.now }
-    ensures value { result ≡ rows_fault head.now None 1 (map row_head rows.now) }
-    ensures entries { IfNone result (All (λ row. All IsEntry row.entries) rows.now) }
+/// The fault of the head, or else of the first row that has one.
+fn parts_fault(head: &PolicyHead, rows: &[PolicyRow]) -> Option<PolicyFault>
+    ensures value { result ≡ parts_fault head.now rows.now }
+    ensures valid { IfNone result (IsTable (record { head = head.now; rows = rows.now })) }
 {
+    if !head.is_in_range() {
+        return Some(PolicyFault::Range(0));
+    }
     let mut before = None;
     let mut number = 1;
     for row in rows {
@@ -57,13 +58,10 @@ impl PolicyTable {
         ensures valid { IsOk result ↔ IsTable (record { head = head; rows = rows.items }) }
         ensures fault { IfErr result (λ fault. parts_fault head rows.items ≡ Some fault) }
     {
-        if !head.is_in_range() {
-            return Err(PolicyFault::Range(0));
+        match parts_fault(&head, &rows) {
+            Some(fault) => Err(fault),
+            None => Ok(PolicyTable { head, rows }),
         }
-        if let Some(fault) = rows_fault(&head, &rows) {
-            return Err(fault);
-        }
-        Ok(PolicyTable { head, rows })
     }
 
     /// Whose policy it is.

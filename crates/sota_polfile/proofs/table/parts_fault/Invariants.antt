@@ -2,7 +2,7 @@ use Rattle.std.proofs.Common.{◌≡◌, ◌+◌, ◌≤◌, take, drop, map, un
 use Rattle.sota_polfile.specs.Entry.{IsEntry}
 use Rattle.sota_polfile.specs.Table.{row_head}
 use Rattle.sota_polfile.specs.Faults.{rows_fault}
-use Rattle.sota_polfile.proofs.table.rows_fault.Given as goal
+use Rattle.sota_polfile.proofs.table.parts_fault.Given as goal
 
 abbrev pub invariant-loop-row : goal.invariant-loop-row
 invariant-loop-row l = record {

@@ -1,7 +1,7 @@
 use Rattle.std.proofs.Common.{◌≡◌, ◌+◌, take, drop, All}
 use Rattle.sota_polfile.specs.Entry.{IsBracketEntry}
 use Rattle.sota_polfile.specs.BracketFile.{bracket_rows_fault}
-use Rattle.sota_polfile.proofs.bracket_table.rows_fault.Given as goal
+use Rattle.sota_polfile.proofs.bracket_table.parts_fault.Given as goal
 
 abbrev pub invariant-loop-row : goal.invariant-loop-row
 invariant-loop-row l = record {
