@@ -1,12 +1,11 @@
 -- The spelling of a bracket table is without fault and says its table, and bytes without fault are the spelling of what they say.
-use Rattle.std.proofs.Common.{◌≡◌, ℕ, ◌+◌, ◌*◌, ◌≤◌, true, List, [], ◌++◌, length, take, drop, Some, None, Ok, Err, refl, sym, ap, ◌∙◌, subst, arith}
+use Rattle.std.proofs.Common.{◌≡◌, ℕ, ◌+◌, ◌*◌, ◌≤◌, true, List, [], ◌++◌, length, take, drop, None, Ok, refl, sym, ap, ◌∙◌, subst, arith}
 use Rattle.std.specs.Prelude.{nat_eq}
 use Rattle.std.specs.List.{flat_map, starts_with}
 use Rattle.std.specs.Cmp.Lexicographic.{same_text}
 use Rattle.std.proofs.lemmas.List.{append-nil, take-append-drop, length-append, length-drop, drop_all}
 use Rattle.std.proofs.lemmas.List.FromFn.{length-map-range_with_len}
 use Rattle.sota_polfile.specs.declared.bracket_row.BracketRow.{BracketRow}
-use Rattle.sota_polfile.specs.declared.fault.PolicyFault.{PolicyFault}
 use Rattle.sota_polfile.specs.declared.head.PolicyHead.{PolicyHead}
 use Rattle.sota_polfile.specs.Table.{IsHead}
 use Rattle.sota_polfile.specs.Bracket.{Bracket, IsBracket, bracket_cells}
@@ -19,7 +18,7 @@ use Rattle.sota_polfile.proofs.Rules.{head_fits, fit_head}
 use Rattle.sota_polfile.proofs.BracketParts.{by_place, from_places}
 use Rattle.sota_polfile.proofs.BracketRows.{rows_again, rows_take, length-rows}
 use Rattle.sota_polfile.proofs.FileFaults.{Clean, none_head, clean_none, none_clean}
-use Rattle.sota_polfile.proofs.Replies.{fault_or_ok, refused, faultless}
+use Rattle.sota_polfile.proofs.Replies.{fault_or_ok, faultless}
 
 -- bytes in which no fault is found
 abbrev pub CleanBracket : List ℕ → Type 0
@@ -120,10 +119,6 @@ read_spelled bytes table fits e =
     rw p.1 at (clean_spelled bytes fits (none_clean bracket_magic 28 (bracket_file_rows_fault bytes 0 (head_at bytes).nodes) (bracket_start bytes (head_at bytes).nodes) bytes p.0))
 
 -- ---- what a reader has found
-
-pub bracket_refused : (bytes : List ℕ) (fault : PolicyFault) → first_bracket_fault bytes ≡ Some fault → bracket_of bytes ≡ Err fault
-unfolding bracket_of
-bracket_refused bytes fault e = refused (first_bracket_fault bytes) (bracket_at bytes) fault e
 
 -- a head, rows and their end, as they stand in the bytes
 pub record Found (bytes : List ℕ) (head : PolicyHead) (rows : List BracketRow) (end : ℕ) : Type 0 where

@@ -1,5 +1,5 @@
 -- A spelling is without fault and says its table, and bytes without fault are the spelling of what they say.
-use Rattle.std.proofs.Common.{◌≡◌, ℕ, ◌+◌, ◌*◌, ◌^◌, ◌≤◌, ◌<◌, true, List, [], ◌∷◌, ◌++◌, length, take, drop, Some, None, Result, Ok, Err, IfOk, All, refl, sym, ap, ◌∙◌, subst, inl, inr, arith}
+use Rattle.std.proofs.Common.{◌≡◌, ℕ, ◌+◌, ◌*◌, ◌^◌, ◌≤◌, ◌<◌, true, List, [], ◌∷◌, ◌++◌, length, take, drop, None, Result, Ok, Err, IfOk, All, refl, sym, ap, ◌∙◌, subst, inl, inr, arith}
 use Rattle.std.specs.Prelude.{nat_eq}
 use Rattle.std.specs.List.{flat_map, starts_with}
 use Rattle.std.specs.Int.{w32, to_be_bytes}
@@ -23,7 +23,7 @@ use Rattle.sota_polfile.proofs.Rules.{head_fits, fit_head, increasing}
 use Rattle.sota_polfile.proofs.Parts.{table_rows, table_bound}
 use Rattle.sota_polfile.proofs.Rows.{rows_again, rows_take, length-rows}
 use Rattle.sota_polfile.proofs.FileFaults.{Clean, none_head, clean_none, none_clean}
-use Rattle.sota_polfile.proofs.Replies.{fault_or_ok, refused, faultless}
+use Rattle.sota_polfile.proofs.Replies.{fault_or_ok, faultless}
 
 -- bytes in which no fault is found
 abbrev pub CleanPolicy : List ℕ → Type 0
@@ -144,10 +144,6 @@ IsBytes-from_all bytes h i =
     ]
 
 -- ---- what a reader has found
-
-pub policy_refused : (bytes : List ℕ) (fault : PolicyFault) → first_fault bytes ≡ Some fault → policy_of bytes ≡ Err fault
-unfolding policy_of
-policy_refused bytes fault e = refused (first_fault bytes) (table_read bytes) fault e
 
 -- a head, rows and their end, as they stand in the bytes
 pub record Found (bytes : List ℕ) (head : PolicyHead) (count : ℕ) (rows : List PolicyRow) (end : ℕ) : Type 0 where

@@ -1,38 +1,30 @@
 use Rattle.std.proofs.Common.{◌≡◌, ℕ, ◌<◌, Ok, get_or, arith}
-use Rattle.std.proofs.lemmas.Result.{err_from_is_err_and}
-use Rattle.sota_polfile.specs.declared.fault.PolicyFault.TheVariants.{Trailing}
 use Rattle.sota_polfile.specs.Table.{IsTable}
 use Rattle.sota_polfile.specs.Spelling.{magic}
 use Rattle.sota_polfile.specs.Places.{row_count, start}
 use Rattle.sota_polfile.specs.Faults.{policy_of}
-use Rattle.sota_polfile.proofs.FileFaults.{in_head, in_rows, more_bytes}
-use Rattle.sota_polfile.proofs.Files.{found_table, policy_refused}
-use Rattle.sota_polfile.specs.Words.{is_shortage}
-use Rattle.sota_polfile.proofs.Replies.{unless_from, unless_more}
+use Rattle.sota_polfile.proofs.Files.{found_table}
+use Rattle.sota_polfile.proofs.Replies.{head_refused, rows_refused, end_refused}
 use Rattle.sota_polfile.proofs.reading.table_of.Goals as goal
 use Rattle.sota_polfile.proofs.reading.table_of.Goals.{Else-end-bytes}
 
 pub returns-in_err-head : goal.returns-in_err-head
-returns-in_err-head c =
-    let bytes = c.args.bytes.now in
-    let fault = c.in_err-head.field-0.0 in
-    let p = err_from_is_err_and c.from_residual.result c.from_residual.ensures.1 in
-    rw (p.1, p.2) (unless_from (is_shortage fault) (policy_refused bytes fault (in_head magic 32 _ _ bytes fault c.in_err-head.ensures.fault)))
+unfolding policy_of
+returns-in_err-head c = head_refused magic 32 _ _ c.args.bytes.now _ _ _ c.from_residual.ensures.1 c.in_err-head.ensures.fault
 
 pub returns-in_err-rows : goal.returns-in_err-rows
+unfolding policy_of
 returns-in_err-rows c =
-    let bytes = c.args.bytes.now in
-    let fault = c.in_err-rows.field-0.0 in
-    let p = err_from_is_err_and c.from_residual-in_err-rows.result c.from_residual-in_err-rows.ensures.1 in
     let given = rw c.row_count.ensures at c.in_err-rows.ensures.fault in
-    rw (p.1, p.2) (unless_more (is_shortage fault) (λ found. policy_refused bytes fault (in_rows magic 32 _ _ bytes fault c.in_ok-head.ensures.none found)) given)
+    rows_refused magic 32 _ _ c.args.bytes.now _ _ _ c.from_residual-in_err-rows.ensures.1 c.in_ok-head.ensures.none given
 
 pub returns-then-end-bytes : goal.returns-then-end-bytes
+unfolding policy_of
 returns-then-end-bytes c =
     let bytes = c.args.bytes.now in
     let none = rw c.row_count.ensures at c.in_ok-rows.ensures.none in
     let end : c.in_ok-rows.end ≡ start bytes (row_count bytes) = rw c.row_count.ensures at c.in_ok-rows.ensures.end.0 in
-    rw end (policy_refused bytes (Trailing (start bytes (row_count bytes))) (more_bytes magic 32 _ _ bytes c.in_ok-head.ensures.none none (omega arith)))
+    rw end (end_refused magic 32 _ (start bytes (row_count bytes)) bytes _ c.in_ok-head.ensures.none none (omega arith))
 
 -- the head and the rows that were read are a table, and the bytes say it
 said : (c : Else-end-bytes) → IsTable (record { head = c.in_ok-head.head; rows = c.in_ok-rows.rows.items }) × (policy_of c.args.bytes.now ≡ Ok (record { head = c.in_ok-head.head; rows = c.in_ok-rows.rows.items }))
