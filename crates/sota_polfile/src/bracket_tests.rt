@@ -1,6 +1,6 @@
 // A bracket file that was made by hand, and each fault once.
 use super::*;
-use crate::tests::{Case, faults_are};
+use crate::tests::{CITY_HEAD, Case, HALF, faults_are};
 use sota_units::NoMemory;
 use std::alloc::{AllocError, Global};
 use std::test::Fail;
@@ -17,16 +17,6 @@ const CITY: [u8; 132] = [
     0xd3, 0xb2, 0x00, 0x00, 0x06, 0xf0, 0x5b, 0x59, 0xd3, 0xb2, 0x00, 0x00, 0x00, 0x00, 0x00, 0x00,
     0x00, 0x00, 0x00, 0x00,
 ];
-
-const CITY_HEAD: BracketHead = BracketHead {
-    nodes: 3,
-    dest: 3,
-    origin: 1,
-    budget: 3,
-    scale: 4,
-};
-
-const HALF: u64 = 500_000_000_000_000_000;
 
 fn row(alloc: Global, first: u32, entries: &[(u32, u64)]) -> Result<BracketRow, AllocError> {
     let mut list = Vec::new(alloc);

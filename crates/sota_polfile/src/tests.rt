@@ -38,7 +38,8 @@ const STUCK: [u8; 32] = [
     0x00, 0x00, 0x00, 0x01, 0x00, 0x00, 0x00, 0x04, 0x00, 0x00, 0x00, 0x01, 0x00, 0x00, 0x00, 0x00,
 ];
 
-const CITY_HEAD: PolicyHead = PolicyHead {
+/// From 1 to 3 in 3 ticks: the head of the city's file of either version.
+pub(crate) const CITY_HEAD: PolicyHead = PolicyHead {
     nodes: 3,
     dest: 3,
     origin: 1,
@@ -46,7 +47,7 @@ const CITY_HEAD: PolicyHead = PolicyHead {
     scale: 4,
 };
 
-const HALF: u64 = 500_000_000_000_000_000;
+pub(crate) const HALF: u64 = 500_000_000_000_000_000;
 
 fn row(
     alloc: Global,
