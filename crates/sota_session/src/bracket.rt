@@ -1,9 +1,9 @@
 // The bracket of an ask, out of the tables.
-ghost use Rattle.std.specs.Prelude.{◌≡◌, ◌-◌, ◌≤◌, ◌<◌, ℕ, All, length, map, IfOk};
+ghost use Rattle.std.specs.Prelude.{◌≡◌, All, length, map, IfOk};
 ghost use Rattle.std.specs.List.{range_with_len};
 ghost use Rattle.sota_network.specs.Grid.{lo, hi};
 ghost use Rattle.sota_kept.specs.Ticks.{END_LIMIT, up_to};
-ghost use Rattle.sota_tables.specs.Views.{HasNode, IsKnownAt};
+ghost use Rattle.sota_tables.specs.Views.{HasNode};
 ghost use Rattle.sota_polfile.specs.Entry.{IsBracketEntry};
 ghost use Rattle.sota_check.specs.Bracketed.{IsBracketed, lower, upper};
 ghost use Rattle.sota_session.specs.Asks.{IsInRange};
@@ -11,8 +11,9 @@ ghost use Rattle.sota_session.specs.Brackets.{plan_bracket};
 ghost use Rattle.sota_session.specs.Rows.{IsPlanned, Agrees, bracket_in, bracket_row_in};
 
 use crate::ask::Ask;
+use crate::entries::{TableEntry, arc_of, entries_of};
 use crate::laws::brackets_by_least_times;
-use crate::policy::{arc_of, head_of};
+use crate::policy::head_of;
 use sota_bounds::AskRegion;
 use sota_check::laws::planned_brackets_hold;
 use sota_kept::laws::least_ticks;
@@ -92,7 +93,10 @@ fn row_of(
     let need = region.need.as_slice()[index];
     let first = first_budget(region.least.as_slice()[index]);
     let entries = entries_of(alloc, tables, node, first, need)?;
-    Ok(BracketRow { first, entries })
+    Ok(BracketRow {
+        first,
+        entries: BracketEntries::new(entries),
+    })
 }
 
 /// The first budget at which a node can arrive, by its least time to the destination.
@@ -105,36 +109,14 @@ fn first_budget(least: Option<u64>) -> u32
     }
 }
 
-/// The entries of a node from a first budget up to below its need: none where that is no more.
-#[tactic(auto, using(crate::proofs::Ranges::mapped_more))]
-fn entries_of(
-    alloc: Global,
-    tables: &Tables,
-    node: NodeId,
-    first: u32,
-    need: u32,
-) -> Result<BracketEntries, NoMemory>
-    requires known { (t : ℕ) → t < need → IsKnownAt tables.now node t }
-    ensures made { IfOk result (λ entries.
-        entries ≡ map (bracket_in tables.now node) (range_with_len first (need - first))) }
-    ensures valid { IfOk result (λ entries. All IsBracketEntry entries) }
-{
-    let end = need.max(first);
-    let mut entries = Vec::with_capacity(alloc, (end - first) as usize)?;
-    for budget in first..end {
-        entries.push(entry_of(tables, node, budget))?;
-    }
-    Ok(BracketEntries::new(entries))
-}
+impl TableEntry for BracketEntry {
+    ghost entry_in = { bracket_in };
 
-/// The entry of a node at a budget.
-fn entry_of(tables: &Tables, node: NodeId, budget: u32) -> BracketEntry
-    requires { IsKnownAt tables.now node budget }
-    ensures { result ≡ bracket_in tables.now node budget }
-{
-    BracketEntry {
-        arc: arc_of(tables, node, budget),
-        lower: tables.lower(node, budget).get(),
-        upper: tables.upper(node, budget).get(),
+    fn entry_of(tables: &Tables, node: NodeId, budget: u32) -> BracketEntry {
+        BracketEntry {
+            arc: arc_of(tables, node, budget),
+            lower: tables.lower(node, budget).get(),
+            upper: tables.upper(node, budget).get(),
+        }
     }
 }

@@ -5,6 +5,7 @@ mod ask;
 mod bracket;
 mod cut;
 mod edit;
+mod entries;
 #[cfg(test)]
 mod file_tests;
 pub mod laws;

@@ -1,10 +1,9 @@
 // The policy of an ask, out of the tables.
-ghost use Rattle.std.specs.Prelude.{◌≡◌, ◌-◌, ◌≤◌, ◌<◌, ℕ, All, length, map, IfOk, IfSome};
-ghost use Rattle.std.specs.Prelude.{unwrap_or};
+ghost use Rattle.std.specs.Prelude.{◌≡◌, All, length, IfOk, IfSome};
 ghost use Rattle.std.specs.List.{filter_map, range_with_len};
 ghost use Rattle.sota_network.specs.Network.{IsNet};
 ghost use Rattle.sota_network.specs.Grid.{lo};
-ghost use Rattle.sota_tables.specs.Views.{HasNode, IsKnownAt, choice_in};
+ghost use Rattle.sota_tables.specs.Views.{HasNode};
 ghost use Rattle.sota_polfile.specs.Entry.{IsEntry};
 ghost use Rattle.sota_polfile.specs.Table.{IsHead};
 ghost use Rattle.sota_check.specs.Certified.{IsCertified, value};
@@ -14,6 +13,7 @@ ghost use Rattle.sota_session.specs.Plans.{plan_table};
 ghost use Rattle.sota_session.specs.Rows.{IsPlanned, Agrees, entry_in, row_in};
 
 use crate::ask::Ask;
+use crate::entries::{TableEntry, arc_of, entries_of};
 use crate::laws::plans_by_least_times;
 use sota_bounds::AskRegion;
 use sota_check::laws::{plans_hold, rows_make_plans};
@@ -118,50 +118,17 @@ fn row_of(
     Ok(Some(PolicyRow {
         node: node.get(),
         first: first as u32,
-        entries,
+        entries: PolicyEntries::new(entries),
     }))
 }
 
-/// The entries of a node from a first budget up to below its need.
-#[tactic(auto, using(crate::proofs::Ranges::mapped_more))]
-fn entries_of(
-    alloc: Global,
-    tables: &Tables,
-    node: NodeId,
-    first: u32,
-    need: u32,
-) -> Result<PolicyEntries, NoMemory>
-    requires budgets { first ≤ need }
-    requires known { (t : ℕ) → t < need → IsKnownAt tables.now node t }
-    ensures made { IfOk result (λ entries.
-        entries ≡ map (entry_in tables.now node) (range_with_len first (need - first))) }
-    ensures valid { IfOk result (λ entries. All IsEntry entries) }
-{
-    let mut entries = Vec::with_capacity(alloc, (need - first) as usize)?;
-    for budget in first..need {
-        entries.push(entry_of(tables, node, budget))?;
-    }
-    Ok(PolicyEntries::new(entries))
-}
+impl TableEntry for PolicyEntry {
+    ghost entry_in = { entry_in };
 
-/// The entry of a node at a budget.
-fn entry_of(tables: &Tables, node: NodeId, budget: u32) -> PolicyEntry
-    requires { IsKnownAt tables.now node budget }
-    ensures { result ≡ entry_in tables.now node budget }
-{
-    PolicyEntry {
-        arc: arc_of(tables, node, budget),
-        value: tables.lower(node, budget).get(),
-    }
-}
-
-/// The arc to take from a node at a budget, 0 for none.
-pub(crate) fn arc_of(tables: &Tables, node: NodeId, budget: u32) -> u32
-    requires { IsKnownAt tables.now node budget }
-    ensures { result ≡ unwrap_or (choice_in tables.now node budget) 0 }
-{
-    match tables.choice(node, budget) {
-        Some(arc) => arc.get(),
-        None => 0,
+    fn entry_of(tables: &Tables, node: NodeId, budget: u32) -> PolicyEntry {
+        PolicyEntry {
+            arc: arc_of(tables, node, budget),
+            value: tables.lower(node, budget).get(),
+        }
     }
 }
