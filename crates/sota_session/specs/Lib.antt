@@ -8,3 +8,4 @@ pub mod Rows
 pub mod Cuts
 pub mod Roads
 pub mod Worked
+pub mod Tabled

@@ -1,18 +1,16 @@
 // The bracket of an ask, out of the tables.
 ghost use Rattle.std.specs.Prelude.{◌≡◌, All, length, map, IfOk};
 ghost use Rattle.std.specs.List.{range_with_len};
-ghost use Rattle.sota_network.specs.Grid.{lo, hi};
 ghost use Rattle.sota_kept.specs.Ticks.{END_LIMIT, up_to};
 ghost use Rattle.sota_tables.specs.Views.{HasNode};
 ghost use Rattle.sota_polfile.specs.Entry.{IsBracketEntry};
-ghost use Rattle.sota_check.specs.Bracketed.{IsBracketed, lower, upper};
-ghost use Rattle.sota_session.specs.Asks.{IsInRange};
-ghost use Rattle.sota_session.specs.Brackets.{plan_bracket};
-ghost use Rattle.sota_session.specs.Rows.{IsPlanned, Agrees, bracket_in, bracket_row_in};
+ghost use Rattle.sota_session.specs.Rows.{Agrees, bracket_in, bracket_row_in};
+ghost use Rattle.sota_session.specs.Tabled.{IsBracketFor};
 
 use crate::ask::Ask;
 use crate::entries::{TableEntry, arc_of, entries_of};
 use crate::laws::brackets_by_least_times;
+use crate::planned_table::PlannedTable;
 use crate::policy::head_of;
 use sota_bounds::AskRegion;
 use sota_check::laws::planned_brackets_hold;
@@ -24,35 +22,26 @@ use sota_tables::Tables;
 use sota_units::{BUDGET_LIMIT, NoMemory, NodeId};
 use std::alloc::Global;
 
-/// The bracket of an ask, out of the region that was planned for it and the tables.
-pub(crate) fn bracket_of(
-    alloc: Global,
-    network: &Network,
-    ask: &Ask,
-    region: &AskRegion,
-    tables: &Tables,
-) -> Result<BracketTable, NoMemory>
-    requires in_range { IsInRange network.now ask.now }
-    requires asked { (region.now.origin ≡ ask.now.origin) × (region.now.dest ≡ ask.now.dest)
-        × (region.now.budget ≡ ask.now.budget) }
-    requires planned { IsPlanned region.now tables.now network.now }
-    ensures file { IfOk result (λ table. table ≡ plan_bracket network.now ask.now) }
-    ensures bracketed { IfOk result (λ table. IsBracketed network.now table) }
-    ensures bounds { IfOk result (λ table.
-        (lower table ask.now.origin ask.now.budget
-        ≡ lo network.now ask.now.dest ask.now.origin ask.now.budget)
-        × (upper table ask.now.origin ask.now.budget
-        ≡ hi network.now ask.now.dest ask.now.origin ask.now.budget)) }
-{
-    brackets_by_least_times();
-    planned_brackets_hold();
-    least_ticks();
-    lists_by_number();
-    region_by_least_times();
-    regions_have_least_times();
-    let rows = rows_of(alloc, network, region, tables)?;
-    let head = head_of(network, ask);
-    Ok(BracketTable::from_parts(head, rows).unwrap())
+impl PlannedTable for BracketTable {
+    ghost is_for = { IsBracketFor };
+
+    fn make(
+        alloc: Global,
+        network: &Network,
+        ask: &Ask,
+        region: &AskRegion,
+        tables: &Tables,
+    ) -> Result<BracketTable, NoMemory> {
+        brackets_by_least_times();
+        planned_brackets_hold();
+        least_ticks();
+        lists_by_number();
+        region_by_least_times();
+        regions_have_least_times();
+        let rows = rows_of(alloc, network, region, tables)?;
+        let head = head_of(network, ask);
+        Ok(BracketTable::from_parts(head, rows).unwrap())
+    }
 }
 
 /// The rows of all nodes.

@@ -12,6 +12,7 @@ pub mod laws;
 #[cfg(test)]
 mod long_tests;
 mod plan;
+mod planned_table;
 mod policy;
 mod roads;
 mod session;

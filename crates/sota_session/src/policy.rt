@@ -2,19 +2,18 @@
 ghost use Rattle.std.specs.Prelude.{◌≡◌, All, length, IfOk, IfSome};
 ghost use Rattle.std.specs.List.{filter_map, range_with_len};
 ghost use Rattle.sota_network.specs.Network.{IsNet};
-ghost use Rattle.sota_network.specs.Grid.{lo};
 ghost use Rattle.sota_tables.specs.Views.{HasNode};
 ghost use Rattle.sota_polfile.specs.Entry.{IsEntry};
 ghost use Rattle.sota_polfile.specs.Table.{IsHead};
-ghost use Rattle.sota_check.specs.Certified.{IsCertified, value};
 ghost use Rattle.sota_check.specs.Planned.{ask_head};
 ghost use Rattle.sota_session.specs.Asks.{IsInRange};
-ghost use Rattle.sota_session.specs.Plans.{plan_table};
-ghost use Rattle.sota_session.specs.Rows.{IsPlanned, Agrees, entry_in, row_in};
+ghost use Rattle.sota_session.specs.Rows.{Agrees, entry_in, row_in};
+ghost use Rattle.sota_session.specs.Tabled.{IsPolicyFor};
 
 use crate::ask::Ask;
 use crate::entries::{TableEntry, arc_of, entries_of};
 use crate::laws::plans_by_least_times;
+use crate::planned_table::PlannedTable;
 use sota_bounds::AskRegion;
 use sota_check::laws::{plans_hold, rows_make_plans};
 use sota_network::Network;
@@ -24,31 +23,25 @@ use sota_tables::Tables;
 use sota_units::{NoMemory, NodeId};
 use std::alloc::Global;
 
-/// The policy of an ask, out of the region that was planned for it and the tables.
-pub(crate) fn policy_of(
-    alloc: Global,
-    network: &Network,
-    ask: &Ask,
-    region: &AskRegion,
-    tables: &Tables,
-) -> Result<PolicyTable, NoMemory>
-    requires in_range { IsInRange network.now ask.now }
-    requires asked { (region.now.origin ≡ ask.now.origin) × (region.now.dest ≡ ask.now.dest)
-        × (region.now.budget ≡ ask.now.budget) }
-    requires planned { IsPlanned region.now tables.now network.now }
-    ensures file { IfOk result (λ table. table ≡ plan_table network.now ask.now) }
-    ensures certified { IfOk result (λ table. IsCertified network.now table) }
-    ensures bound { IfOk result (λ table. value table ask.now.origin ask.now.budget
-        ≡ lo network.now ask.now.dest ask.now.origin ask.now.budget) }
-{
-    lists_by_number();
-    region_by_least_times();
-    plans_by_least_times();
-    rows_make_plans();
-    plans_hold();
-    let rows = rows_of(alloc, network, region, tables)?;
-    let head = head_of(network, ask);
-    Ok(PolicyTable::from_parts(head, rows).unwrap())
+impl PlannedTable for PolicyTable {
+    ghost is_for = { IsPolicyFor };
+
+    fn make(
+        alloc: Global,
+        network: &Network,
+        ask: &Ask,
+        region: &AskRegion,
+        tables: &Tables,
+    ) -> Result<PolicyTable, NoMemory> {
+        lists_by_number();
+        region_by_least_times();
+        plans_by_least_times();
+        rows_make_plans();
+        plans_hold();
+        let rows = rows_of(alloc, network, region, tables)?;
+        let head = head_of(network, ask);
+        Ok(PolicyTable::from_parts(head, rows).unwrap())
+    }
 }
 
 /// The head of what is planned for an ask.

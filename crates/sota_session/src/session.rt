@@ -17,16 +17,16 @@ ghost use Rattle.sota_session.specs.Brackets.{plan_bracket};
 ghost use Rattle.sota_session.specs.State.{kept_state, state_after, pushes_for, IsLeft};
 ghost use Rattle.sota_session.specs.State.{MayLeave};
 ghost use Rattle.sota_session.specs.State.{state_edited};
+ghost use Rattle.sota_session.specs.Tabled.{IsTableCall};
 ghost use Rattle.sota_session.specs.Cuts.{IsCutFor};
 ghost use Rattle.sota_session.specs.declared.ask.AskFault.TheVariants as asks;
 ghost use Rattle.sota_session.specs.declared.edit.EditFault.TheVariants as edits;
 
 use crate::ask::{Answer, Ask, AskFault};
-use crate::bracket::bracket_of;
 use crate::cut::cut_all;
 use crate::edit::EditFault;
 use crate::plan::plan;
-use crate::policy::policy_of;
+use crate::planned_table::PlannedTable;
 use crate::roads::Roads;
 use sota_hist::Histogram;
 use sota_kept::kept::tables_stay_right;
@@ -198,18 +198,7 @@ impl Session {
         ensures right { IsKept self.new.tables self.new.network }
         ensures valid { IsNet self.new.network }
     {
-        let region = plan(
-            self.alloc,
-            &mut self.roads,
-            &mut self.tables,
-            &ask,
-            products,
-            pushes,
-        )?;
-        let network = self.roads.network();
-        let table = policy_of(self.alloc, network, &ask, &region, &self.tables)?;
-        self.roads.keep_times(ask.dest, region.least);
-        Ok(table)
+        self.table_of(ask, products, pushes)
     }
 
     /// The bracket of an ask for the network as it is now, which stays as it is: its policy, with
@@ -249,6 +238,19 @@ impl Session {
         ensures right { IsKept self.new.tables self.new.network }
         ensures valid { IsNet self.new.network }
     {
+        self.table_of(ask, products, pushes)
+    }
+
+    /// A table of an ask for the network as it is now, which stays as it is.
+    fn table_of<T: PlannedTable, M: Ledger, P: Ledger>(
+        &mut self,
+        ask: Ask,
+        products: &mut Steps<M>,
+        pushes: &mut Steps<P>,
+    ) -> Result<T, AskFault>
+        ensures table { IfOk result (λ table. T.is_for self.old.network ask table) }
+        ensures leaves { IsTableCall ask self.old self.new pushes.old pushes.new result }
+    {
         let region = plan(
             self.alloc,
             &mut self.roads,
@@ -258,7 +260,7 @@ impl Session {
             pushes,
         )?;
         let network = self.roads.network();
-        let table = bracket_of(self.alloc, network, &ask, &region, &self.tables)?;
+        let table = T::make(self.alloc, network, &ask, &region, &self.tables)?;
         self.roads.keep_times(ask.dest, region.least);
         Ok(table)
     }

@@ -4,8 +4,8 @@ use Rattle.sota_polfile.specs.declared.fault.PolicyFault.{PolicyFault}
 use Rattle.sota_check.specs.Planned.{ask_head, IsPlanFile}
 use Rattle.sota_session.specs.Plans.{plan_table}
 use Rattle.sota_session.proofs.Planned.{IsPlannedFor, rows-table, table-planned}
-use Rattle.sota_session.proofs.policy.policy_of.Goals as goal
-use Rattle.sota_session.proofs.policy.policy_of.Goals.{After-plans_hold, After-from_parts}
+use Rattle.sota_session.proofs.policy.PolicyTablePlannedTable.make.Goals as goal
+use Rattle.sota_session.proofs.policy.PolicyTablePlannedTable.make.Goals.{After-plans_hold, After-from_parts}
 
 planned : (c : goal.After-plans_hold) → IsPlannedFor c.args.network.now c.args.ask.now c.args.region.now c.args.tables.now
 planned c = record {

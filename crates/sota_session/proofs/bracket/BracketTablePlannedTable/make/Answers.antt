@@ -13,8 +13,8 @@ use Rattle.sota_session.specs.Brackets.{bracket_row, plan_bracket}
 use Rattle.sota_session.specs.Rows.{bracket_row_in}
 use Rattle.sota_session.proofs.Planned.{IsPlannedFor, region-is}
 use Rattle.sota_session.proofs.Bracketing.{HasTimes, bracket-table, rows-same, bracket-planned}
-use Rattle.sota_session.proofs.bracket.bracket_of.Goals as goal
-use Rattle.sota_session.proofs.bracket.bracket_of.Goals.{After-from_parts}
+use Rattle.sota_session.proofs.bracket.BracketTablePlannedTable.make.Goals as goal
+use Rattle.sota_session.proofs.bracket.BracketTablePlannedTable.make.Goals.{After-from_parts}
 
 planned : (c : After-from_parts) → IsPlannedFor c.args.network.now c.args.ask.now c.args.region.now c.args.tables.now
 planned c = record {
