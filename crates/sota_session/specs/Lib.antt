@@ -8,4 +8,4 @@ pub mod Rows
 pub mod Cuts
 pub mod Roads
 pub mod Worked
-pub mod Tabled
+pub mod Calls

@@ -4,8 +4,8 @@ ghost use Rattle.std.specs.List.{range_with_len};
 ghost use Rattle.sota_kept.specs.Ticks.{END_LIMIT, up_to};
 ghost use Rattle.sota_tables.specs.Views.{HasNode};
 ghost use Rattle.sota_polfile.specs.Entry.{IsBracketEntry};
+ghost use Rattle.sota_session.specs.Brackets.{IsBracketFor};
 ghost use Rattle.sota_session.specs.Rows.{Agrees, bracket_in, bracket_row_in};
-ghost use Rattle.sota_session.specs.Tabled.{IsBracketFor};
 
 use crate::ask::Ask;
 use crate::entries::{TableEntry, arc_of, entries_of};

@@ -7,8 +7,8 @@ ghost use Rattle.sota_polfile.specs.Entry.{IsEntry};
 ghost use Rattle.sota_polfile.specs.Table.{IsHead};
 ghost use Rattle.sota_check.specs.Planned.{ask_head};
 ghost use Rattle.sota_session.specs.Asks.{IsInRange};
+ghost use Rattle.sota_session.specs.Plans.{IsPolicyFor};
 ghost use Rattle.sota_session.specs.Rows.{Agrees, entry_in, row_in};
-ghost use Rattle.sota_session.specs.Tabled.{IsPolicyFor};
 
 use crate::ask::Ask;
 use crate::entries::{TableEntry, arc_of, entries_of};

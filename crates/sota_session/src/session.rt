@@ -1,25 +1,16 @@
 // A network that is asked and edited.
-ghost use Rattle.std.specs.Prelude.{◌≡◌, ◌+◌, ◌≤◌, ◌↔◌, None, Err, IfOk, OnErr, OnOk};
+ghost use Rattle.std.specs.Prelude.{◌≡◌, ◌≤◌, ◌↔◌, None, Err, IfOk, OnErr, OnOk};
 ghost use Rattle.std.specs.Option.{option_map};
-ghost use Rattle.sota_units.specs.Memory.{Unless};
 ghost use Rattle.sota_hist.specs.Time.{total};
 ghost use Rattle.sota_network.specs.Network.{IsNet, IsNode, arc_at, replaced};
-ghost use Rattle.sota_network.specs.Grid.{lo, hi};
 ghost use Rattle.sota_kept.specs.States.{front_of, base_of, first_state};
-ghost use Rattle.sota_kept.specs.TableLists.{IsKept, IsSettled};
-ghost use Rattle.sota_check.specs.Certified.{IsCertified, value};
-ghost use Rattle.sota_check.specs.Bracketed.{IsBracketed, lower, upper};
-ghost use Rattle.sota_session.specs.Asks.{range_fault, size_fault, answer_of, IsInRange};
-ghost use Rattle.sota_session.specs.Plans.{plan_table};
-ghost use Rattle.sota_session.specs.Answers.{is_of_range, is_of_size, is_shortage};
-ghost use Rattle.sota_session.specs.Answers.{is_refused, refusal_of};
-ghost use Rattle.sota_session.specs.Brackets.{plan_bracket};
-ghost use Rattle.sota_session.specs.State.{kept_state, state_after, pushes_for, IsLeft};
-ghost use Rattle.sota_session.specs.State.{MayLeave};
-ghost use Rattle.sota_session.specs.State.{state_edited};
-ghost use Rattle.sota_session.specs.Tabled.{IsTableCall};
+ghost use Rattle.sota_kept.specs.TableLists.{IsKept};
+ghost use Rattle.sota_session.specs.Asks.{answer_of};
+ghost use Rattle.sota_session.specs.Plans.{IsPolicyFor};
+ghost use Rattle.sota_session.specs.Brackets.{IsBracketFor};
+ghost use Rattle.sota_session.specs.State.{kept_state, state_edited, IsLeft};
+ghost use Rattle.sota_session.specs.Calls.{IsAsked};
 ghost use Rattle.sota_session.specs.Cuts.{IsCutFor};
-ghost use Rattle.sota_session.specs.declared.ask.AskFault.TheVariants as asks;
 ghost use Rattle.sota_session.specs.declared.edit.EditFault.TheVariants as edits;
 
 use crate::ask::{Answer, Ask, AskFault};
@@ -129,25 +120,11 @@ impl Session {
         products: &mut Steps<M>,
         pushes: &mut Steps<P>,
     ) -> Result<Answer, AskFault>
-        ensures range { refusal_of is_of_range result ≡ range_fault self.old.network ask }
-        ensures size { range_fault self.old.network ask ≡ None
-            → Unless (is_refused is_shortage result)
-            (refusal_of is_of_size result ≡ size_fault self.old.network ask) }
-        ensures memory { result ≡ Err asks.NoMemory → IsInRange self.old.network ask }
         ensures answer { IfOk result (λ answer. answer ≡ answer_of self.old.network ask) }
-        ensures kept { self.new.network ≡ self.old.network }
-        ensures state { OnOk result (kept_state self.new
-            ≡ state_after self.old.network ask (kept_state self.old)) }
-        ensures settled { OnOk result (IsSettled self.new.tables self.new.network) }
-        ensures count { OnOk result (pushes.new
-            ≡ pushes.old + pushes_for self.old.network ask (kept_state self.old)) }
+        ensures leaves { IsAsked ask self.old self.new pushes.old pushes.new result }
         ensures no_push { OnErr result (pushes.new ≡ pushes.old) }
-        ensures unchanged { OnErr result
-            (Unless (is_refused is_shortage result) (self.new ≡ self.old)) }
         ensures left { OnErr result
             (IsLeft self.old.network ask self.old.tables self.new.tables) }
-        ensures right { IsKept self.new.tables self.new.network }
-        ensures valid { IsNet self.new.network }
     {
         let region = plan(
             self.alloc,
@@ -176,27 +153,8 @@ impl Session {
         products: &mut Steps<M>,
         pushes: &mut Steps<P>,
     ) -> Result<PolicyTable, AskFault>
-        ensures range { refusal_of is_of_range result ≡ range_fault self.old.network ask }
-        ensures size { range_fault self.old.network ask ≡ None
-            → Unless (is_refused is_shortage result)
-            (refusal_of is_of_size result ≡ size_fault self.old.network ask) }
-        ensures memory { result ≡ Err asks.NoMemory → IsInRange self.old.network ask }
-        ensures file { IfOk result (λ table. table ≡ plan_table self.old.network ask) }
-        ensures certified { IfOk result (λ table. IsCertified self.old.network table) }
-        ensures bound { IfOk result (λ table. value table ask.origin ask.budget
-            ≡ lo self.old.network ask.dest ask.origin ask.budget) }
-        ensures kept { self.new.network ≡ self.old.network }
-        ensures state { OnOk result (kept_state self.new
-            ≡ state_after self.old.network ask (kept_state self.old)) }
-        ensures settled { OnOk result (IsSettled self.new.tables self.new.network) }
-        ensures count { OnOk result (pushes.new
-            ≡ pushes.old + pushes_for self.old.network ask (kept_state self.old)) }
-        ensures unchanged { OnErr result (Unless (is_refused is_shortage result)
-            ((self.new ≡ self.old) × (pushes.new ≡ pushes.old))) }
-        ensures left { OnErr result (MayLeave self.old.network ask self.old.tables self.new.tables
-            pushes.old pushes.new) }
-        ensures right { IsKept self.new.tables self.new.network }
-        ensures valid { IsNet self.new.network }
+        ensures policy { IfOk result (λ table. IsPolicyFor self.old.network ask table) }
+        ensures leaves { IsAsked ask self.old self.new pushes.old pushes.new result }
     {
         self.table_of(ask, products, pushes)
     }
@@ -213,30 +171,8 @@ impl Session {
         products: &mut Steps<M>,
         pushes: &mut Steps<P>,
     ) -> Result<BracketTable, AskFault>
-        ensures range { refusal_of is_of_range result ≡ range_fault self.old.network ask }
-        ensures size { range_fault self.old.network ask ≡ None
-            → Unless (is_refused is_shortage result)
-            (refusal_of is_of_size result ≡ size_fault self.old.network ask) }
-        ensures memory { result ≡ Err asks.NoMemory → IsInRange self.old.network ask }
-        ensures file { IfOk result (λ table. table ≡ plan_bracket self.old.network ask) }
-        ensures bracketed { IfOk result (λ table. IsBracketed self.old.network table) }
-        ensures bounds { IfOk result (λ table.
-            (lower table ask.origin ask.budget
-            ≡ lo self.old.network ask.dest ask.origin ask.budget)
-            × (upper table ask.origin ask.budget
-            ≡ hi self.old.network ask.dest ask.origin ask.budget)) }
-        ensures kept { self.new.network ≡ self.old.network }
-        ensures state { OnOk result (kept_state self.new
-            ≡ state_after self.old.network ask (kept_state self.old)) }
-        ensures settled { OnOk result (IsSettled self.new.tables self.new.network) }
-        ensures count { OnOk result (pushes.new
-            ≡ pushes.old + pushes_for self.old.network ask (kept_state self.old)) }
-        ensures unchanged { OnErr result (Unless (is_refused is_shortage result)
-            ((self.new ≡ self.old) × (pushes.new ≡ pushes.old))) }
-        ensures left { OnErr result (MayLeave self.old.network ask self.old.tables self.new.tables
-            pushes.old pushes.new) }
-        ensures right { IsKept self.new.tables self.new.network }
-        ensures valid { IsNet self.new.network }
+        ensures bracket { IfOk result (λ table. IsBracketFor self.old.network ask table) }
+        ensures leaves { IsAsked ask self.old self.new pushes.old pushes.new result }
     {
         self.table_of(ask, products, pushes)
     }
@@ -249,7 +185,7 @@ impl Session {
         pushes: &mut Steps<P>,
     ) -> Result<T, AskFault>
         ensures table { IfOk result (λ table. T.is_for self.old.network ask table) }
-        ensures leaves { IsTableCall ask self.old self.new pushes.old pushes.new result }
+        ensures leaves { IsAsked ask self.old self.new pushes.old pushes.new result }
     {
         let region = plan(
             self.alloc,

@@ -23,7 +23,7 @@ returns-clause-count g c =
     let ask = c.args.ask.now in
     let kept = kept_state c.args.session.now in
     let answered : ask_fault net ask ≡ None = search rules in
-    let valid : IsNet net = rw (← c.in_ok-answer.ensures.kept) c.in_ok-answer.ensures.valid in
-    shown_count net _ ask kept _ _ _ _ c.in_ok-answer.ensures.count c.in_ok-answer.ensures.kept
-    c.in_ok-answer.ensures.state c.in_ok-table.ensures.count
+    let valid : IsNet net = rw (← c.in_ok-answer.ensures.leaves.kept) c.in_ok-answer.ensures.leaves.valid in
+    shown_count net _ ask kept _ _ _ _ c.in_ok-answer.ensures.leaves.count c.in_ok-answer.ensures.leaves.kept
+    c.in_ok-answer.ensures.leaves.state c.in_ok-table.ensures.leaves.count
     (c.asks_push_their_cells.ensures.again net ask kept valid answered)

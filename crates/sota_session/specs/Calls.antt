@@ -1,39 +1,20 @@
--- What a call that plans for an ask and makes a table of it promises, whichever table it is.
+-- What a call that plans for an ask answers and leaves, whatever it makes of what was planned.
 use Rattle.std.specs.Prelude.{ℕ, ◌≡◌, ◌+◌, None, Result, Err, OnErr, OnOk}
 use Rattle.sota_units.specs.Memory.{Unless}
-use Rattle.sota_network.specs.Network.{Net, IsNet}
-use Rattle.sota_network.specs.Grid.{lo, hi}
+use Rattle.sota_network.specs.Network.{IsNet}
 use Rattle.sota_kept.specs.TableLists.{IsKept, IsSettled}
-use Rattle.sota_polfile.specs.Table.{Table}
-use Rattle.sota_polfile.specs.Bracket.{Bracket}
-use Rattle.sota_check.specs.Certified.{IsCertified, value}
-use Rattle.sota_check.specs.Bracketed.{IsBracketed, lower, upper}
 use Rattle.sota_session.specs.Asks.{range_fault, size_fault, IsInRange}
 use Rattle.sota_session.specs.Answers.{is_of_range, is_of_size, is_shortage}
 use Rattle.sota_session.specs.Answers.{is_refused, refusal_of}
-use Rattle.sota_session.specs.Plans.{plan_table}
-use Rattle.sota_session.specs.Brackets.{plan_bracket}
 use Rattle.sota_session.specs.State.{SessionState, kept_state, state_after, pushes_for, MayLeave}
 use Rattle.sota_session.specs.declared.ask.Ask.{Ask}
 use Rattle.sota_session.specs.declared.ask.AskFault.{AskFault}
 use Rattle.sota_session.specs.declared.ask.AskFault.TheVariants.{NoMemory}
 
--- the policy of an ask: it holds on the network, and its value is the answer's lower bound
-pub record IsPolicyFor (net : Net) (ask : Ask) (table : Table) : Type 0 where
-  pub file : table ≡ plan_table net ask
-  pub certified : IsCertified net table
-  pub bound : value table ask.origin ask.budget ≡ lo net ask.dest ask.origin ask.budget
-
--- its bracket: it holds on the network, and the bounds that it names are those of the answer
-pub record IsBracketFor (net : Net) (ask : Ask) (table : Bracket) : Type 0 where
-  pub file : table ≡ plan_bracket net ask
-  pub bracketed : IsBracketed net table
-  pub bounds : (lower table ask.origin ask.budget ≡ lo net ask.dest ask.origin ask.budget)
-      × (upper table ask.origin ask.budget ≡ hi net ask.dest ask.origin ask.budget)
-
--- what such a call answers and leaves: it is refused as the ask is, and where it finds no memory
--- after the ask was planned, the state and the pushes are those after the ask
-pub record IsTableCall {A : Type 0} (ask : Ask) (old new : SessionState) (before after : ℕ)
+-- it is refused for what the ask says or for want of memory, and the network stays as it is. Where
+-- it is not refused the state and the pushes are those after the ask. Want of memory may leave the
+-- first steps of the ask taken, or all of them; after any other refusal all is unchanged
+pub record IsAsked {A : Type 0} (ask : Ask) (old new : SessionState) (before after : ℕ)
     (result : Result A AskFault) : Type 0 where
   pub range : refusal_of is_of_range result ≡ range_fault old.network ask
   pub size : range_fault old.network ask ≡ None
