@@ -16,7 +16,7 @@ use Rattle.sota_histcsv.specs.Certain.{certain_arc, certain_by, certain_net, zer
 use Rattle.sota_histcsv.specs.Histograms.{Contents, timed_arc}
 use Rattle.sota_histcsv.specs.Texts.{IsHistTextOf}
 use Rattle.sota_histcsv.specs.declared.fault.HistFileFault.{HistFileFault}
-use Rattle.sota_period.specs.Periods.{AreInOrder, HasRoadsOf, PERIOD_LIMIT, first_net, no_net}
+use Rattle.sota_period.specs.Periods.{ArePeriodsInOrder, HasRoadsOf, PERIOD_LIMIT, first_net, no_net}
 use Rattle.sota_period.specs.Periods.{start_at}
 use Rattle.sota_period.specs.Periods as roads
 use Rattle.sota_app.specs.Later.{LATER_LIMIT, are_later}
@@ -92,7 +92,7 @@ module _ (known : List (ℕ × Net)) (start next : ℕ) (net other : Net) where
       ap (λ (p : ℕ × Net). p.0)
       (get_or_append_left now ((next, other) ∷ []) (0, no_net) k within)
 
-  rises : AreInOrder now → start < next → (k : ℕ) → k + 1 < length after
+  rises : ArePeriodsInOrder now → start < next → (k : ℕ) → k + 1 < length after
       → start_at after k < start_at after (k + 1)
   rises order less k within =
       let size : length after ≡ length now + 1 = length-append now ((next, other) ∷ []) in
@@ -116,7 +116,7 @@ module _ (known : List (ℕ × Net)) (start next : ℕ) (net other : Net) where
       omega (arith, one, seam, two, less))
       (cases_lt (k + 1) (length now))
 
-  last_roads : AreInOrder now → HasRoadsOf (first_net now) net
+  last_roads : ArePeriodsInOrder now → HasRoadsOf (first_net now) net
   last_roads order =
       let size : length now ≡ length known + 1 = length-append known ((start, net) ∷ []) in
       subst (λ (p : ℕ × Net). HasRoadsOf (first_net now) p.1)
@@ -124,8 +124,8 @@ module _ (known : List (ℕ × Net)) (start next : ℕ) (net other : Net) where
       (order.roads (length known) (0, no_net) (omega (arith, size)))
 
   -- another network over the same roads follows, which starts later
-  pub follows : (graph : RawGraph) → AreInOrder now → HasRoads graph net → HasRoads graph other
-      → start < next → length known + 2 ≤ PERIOD_LIMIT → AreInOrder after
+  pub follows : (graph : RawGraph) → ArePeriodsInOrder now → HasRoads graph net → HasRoads graph other
+      → start < next → length known + 2 ≤ PERIOD_LIMIT → ArePeriodsInOrder after
   follows graph order has has' less room =
       let size : length after ≡ length now + 1 = length-append now ((next, other) ∷ []) in
       let size' : length now ≡ length known + 1 = length-append known ((start, net) ∷ []) in

@@ -12,7 +12,7 @@ use Rattle.sota_network.specs.Network.{Net}
 use Rattle.sota_dimacs.specs.declared.graph.RawGraph.{RawGraph}
 use Rattle.sota_dimacs.specs.declared.graph.RawArc.{RawArc}
 use Rattle.sota_polfile.specs.Bracket.{IsBracket}
-use Rattle.sota_period.specs.Periods.{AreInOrder, ArePeriods, first_net}
+use Rattle.sota_period.specs.Periods.{ArePeriodsInOrder, ArePeriods, first_net}
 use Rattle.sota_period.specs.Periods as roads
 use Rattle.sota_app.specs.Shown.{HoldsUnlessRefused}
 use Rattle.sota_app.specs.Script.{ScriptLine, ask_on, session_ask, script_lines}
@@ -82,7 +82,7 @@ pub record HasRoads (graph : RawGraph) (net : Net) : Type 0 where
 -- with each network over these roads that starts there, the periods are in order
 abbrev pub CanFollow : RawGraph → List (ℕ × Net) → ℕ → Type 0
 CanFollow graph known start = (net : Net) → HasRoads graph net
-    → AreInOrder (known ++ (start, net) ∷ [])
+    → ArePeriodsInOrder (known ++ (start, net) ∷ [])
 
 -- ---- how inputs were read
 

@@ -1,7 +1,7 @@
 // The inputs of an ask whose travel times depend on the clock.
 ghost use Rattle.std.specs.Prelude.{◌≡◌, ◌-◌, ◌∷◌, [], true, length, map, string_bytes, IfOk};
 ghost use Rattle.sota_dimacs.specs.Graph.{IsGraph};
-ghost use Rattle.sota_period.specs.Periods.{AreInOrder};
+ghost use Rattle.sota_period.specs.Periods.{ArePeriodsInOrder};
 ghost use Rattle.sota_app.specs.Later.{LATER_LIMIT, later_of, are_later};
 ghost use Rattle.sota_app.specs.Words.{IsTimely};
 ghost use Rattle.sota_app.specs.Outcome.{with_hists, periods_after, periods_of, one_scale};
@@ -70,7 +70,7 @@ fn load_periods<D: Desk>(
         (UnreadPeriods (λ name files. with_hists name files graph.now)
         ((start, hists.now) ∷ later_of (map string_bytes later.now)))
         (D.state desk.old) (D.state desk.new) }
-    ensures order { IfOk result (λ periods. AreInOrder periods.items) }
+    ensures order { IfOk result (λ periods. ArePeriodsInOrder periods.items) }
 {
     let mut known = known;
     let network = load_over(alloc, graph, hists, desk)?;
@@ -87,7 +87,7 @@ fn load_periods<D: Desk>(
 
 /// The network of periods, where their masses have one denominator.
 fn join_periods(periods: Vec<(u32, Network)>) -> Result<Timed, NoInput>
-    requires { AreInOrder periods.items }
+    requires { ArePeriodsInOrder periods.items }
     ensures { TextAnswers result (one_scale periods.items) }
 {
     match Timed::new(periods) {

@@ -8,7 +8,7 @@ use Rattle.sota_network.specs.Grid.{best_sum}
 use Rattle.sota_sums.specs.Bounds.{rounded_in}
 use Rattle.sota_period.specs.declared.ask.Ask.{Ask}
 use Rattle.sota_period.specs.Laws.{NetworkLaws}
-use Rattle.sota_period.specs.Rows.{row_of, row_value, row_room, asked_net, asked_value, asked_nodes, asked_need, AreLonger, AreRows, IsBlock}
+use Rattle.sota_period.specs.Rows.{timed_row, row_value, row_room, asked_net, asked_value, asked_nodes, asked_need, AreLonger, AreRows, IsBlock}
 use Rattle.sota_period.specs.Broad.{AllRead}
 use Rattle.sota_period.proofs.Filling.{nodes-held, reads, bests-small, value-here, longer, own-long, rows-longer, are-longer}
 
@@ -19,7 +19,7 @@ pub record GoesOn (ask : Ask) (net : Net) (from ticks : ℕ) (rows : List (Row �
   pub before : AreRows ask from rows
   pub off : node ≢ ask.dest
   pub is_node : IsNode net node
-  pub at_is : at ≡ length (row_of rows node)
+  pub at_is : at ≡ length (timed_row rows node)
   pub end_is : end ≡ min (row_room rows node) (from + ticks)
   pub less : at < end
 
@@ -27,7 +27,7 @@ pub record GoesOn (ask : Ask) (net : Net) (from ticks : ℕ) (rows : List (Row �
 pub record HaveGrown (ask : Ask) (from to node : ℕ) (old new : List (Row ℕ)) : Type 0 where
   pub rows : AreRows ask from new
   pub longer : AreLonger old new
-  pub reach : min to (asked_need ask node) ≤ length (row_of new node)
+  pub reach : min to (asked_need ask node) ≤ length (timed_row new node)
 
 module _ {ask : Ask} {net : Net} {from ticks : ℕ} {rows : List (Row ℕ)} {node at end : ℕ} (on : GoesOn ask net from ticks rows node at end) where
   here : (asked_net ask).at from ≡ net

@@ -18,10 +18,10 @@ use Rattle.sota_sums.specs.declared.bound.Bound.{Bound}
 use Rattle.sota_sums.specs.declared.bound.Bound.TheVariants.{Lower, Upper}
 use Rattle.sota_period.specs.declared.ask.Ask.{Ask}
 use Rattle.sota_period.specs.Laws.{NetworkLaws}
-use Rattle.sota_period.specs.Needs.{Serves, need_at}
+use Rattle.sota_period.specs.Needs.{Serves, node_need}
 use Rattle.sota_period.specs.Periods.{IsTimedNet}
 use Rattle.sota_period.specs.Grid.{timed_value, tlo, tchoice}
-use Rattle.sota_period.specs.Rows.{row_of, row_value, row_room, round_of, asked_net, asked_value, asked_nodes, asked_need, IsAsk, AreRows, AreLonger, TakesAtLeast}
+use Rattle.sota_period.specs.Rows.{timed_row, row_value, row_room, round_of, asked_net, asked_value, asked_nodes, asked_need, IsAsk, AreRows, AreLonger, TakesAtLeast}
 use Rattle.sota_period.specs.Broad.{AllRead}
 use Rattle.sota_period.proofs.Periods.{is-timed, net-has}
 use Rattle.sota_period.proofs.Best.{Each, best-agree, choice-agree}
@@ -90,14 +90,14 @@ module _ (laws : NetworkLaws) (ask : Ask) (is : IsAsk ask) where
         let served : asked_need ask a.tail ≤ asked_need ask a.head + least_tick a.time = serves-held net t here e a at opened away in
         let late : ticks ≤ least_tick a.time = takes-at ticks net e a takes at opened in
         let same : asked_need ask a.tail ≡ asked_need ask node = ap (asked_need ask) tail in
-        let known : min from (asked_need ask a.head) ≤ length (row_of rows a.head) = are.reach a.head v.head.0 (omega (arith, v.head.1, nodes-held net t here)) in
+        let known : min from (asked_need ask a.head) ≤ length (timed_row rows a.head) = are.reach a.head v.head.0 (omega (arith, v.head.1, nodes-held net t here)) in
         omega (arith, served, late, same, known)
 
     -- the rows agree with the values
     agrees : (u : ℕ) → u < from + ticks → u < asked_need ask node → Agree net node u (row_value rows) (asked_value ask)
     agrees u soon needed e a at tail opened w le =
         let v : IsArc net a = laws.arc net e a (valid-held net t here) at in
-        let read : u + 1 ≤ least_tick a.time + length (row_of rows a.head) = reads (u + 1) (omega arith) (omega arith) e a at tail opened in
+        let read : u + 1 ≤ least_tick a.time + length (timed_row rows a.head) = reads (u + 1) (omega arith) (omega arith) e a at tail opened in
         are.entry a.head w v.head.0 (omega (arith, v.head.1, nodes-held net t here)) (omega (arith, read, le))
 
     pub bests-known : (u : ℕ) → u < from + ticks → u < asked_need ask node → best_sum net (row_value rows) node u ≡ best_sum net (asked_value ask) node u
@@ -131,19 +131,19 @@ empty-row = bank.row_of [] 0
 
 module _ (rows : List (Row ℕ)) (node : ℕ) (low : 1 ≤ node) (within : node ≤ length rows) (more : List ℕ) where
   abbrev pub longer : List (Row ℕ)
-  longer = with_list rows (node - 1) (row_of rows node ++ more)
+  longer = with_list rows (node - 1) (timed_row rows node ++ more)
 
-  row-own : get_or longer (node - 1) empty-row ≡ bank.row_of (row_of rows node ++ more) (row_room rows node)
+  row-own : get_or longer (node - 1) empty-row ≡ bank.row_of (timed_row rows node ++ more) (row_room rows node)
   row-own = get_or-set_same rows (node - 1) _ empty-row (omega arith)
 
   row-other : (i : ℕ) → (i - 1 ≡ node - 1 → ⊥) → get_or longer (i - 1) empty-row ≡ get_or rows (i - 1) empty-row
   row-other i off = get_or-set_other rows (node - 1) (i - 1) _ empty-row off
 
-  list-own : (i : ℕ) → i - 1 ≡ node - 1 → row_of longer i ≡ row_of rows i ++ more
+  list-own : (i : ℕ) → i - 1 ≡ node - 1 → timed_row longer i ≡ timed_row rows i ++ more
   list-own i same =
       ap (λ (n : ℕ). list_at longer n) same ∙ ap (λ (r : Row ℕ). r.items) row-own ∙ ap (λ (n : ℕ). list_at rows n ++ more) (sym same)
 
-  list-other : (i : ℕ) → (i - 1 ≡ node - 1 → ⊥) → row_of longer i ≡ row_of rows i
+  list-other : (i : ℕ) → (i - 1 ≡ node - 1 → ⊥) → timed_row longer i ≡ timed_row rows i
   list-other i off = ap (λ (r : Row ℕ). r.items) (row-other i off)
 
   cap-same : (i : ℕ) → row_room longer i ≡ row_room rows i
@@ -159,45 +159,45 @@ module _ (rows : List (Row ℕ)) (node : ℕ) (low : 1 ≤ node) (within : node 
     room = cap-same;
     long = λ i.
         ⊎_elim
-        (λ (same : i - 1 ≡ node - 1). omega (arith, ap length (list-own i same), length-append (row_of rows i) more))
+        (λ (same : i - 1 ≡ node - 1). omega (arith, ap length (list-own i same), length-append (timed_row rows i) more))
         (λ (off : i - 1 ≡ node - 1 → ⊥). omega (arith, ap length (list-other i off)))
         (cases_eq (i - 1) (node - 1));
     entry = λ i t less.
         ⊎_elim
-        (λ (same : i - 1 ≡ node - 1). ap (λ (xs : List ℕ). slice_index xs t) (list-own i same) ∙ get_or_append_left (row_of rows i) more 0 t less)
+        (λ (same : i - 1 ≡ node - 1). ap (λ (xs : List ℕ). slice_index xs t) (list-own i same) ∙ get_or_append_left (timed_row rows i) more 0 t less)
         (λ (off : i - 1 ≡ node - 1 → ⊥). ap (λ (xs : List ℕ). slice_index xs t) (list-other i off))
         (cases_eq (i - 1) (node - 1));
   }
 
-  pub own-long : length (row_of longer node) ≡ length (row_of rows node) + length more
-  own-long = ap length (list-own node refl) ∙ length-append (row_of rows node) more
+  pub own-long : length (timed_row longer node) ≡ length (timed_row rows node) + length more
+  own-long = ap length (list-own node refl) ∙ length-append (timed_row rows node) more
 
   -- the entries stay values where what is appended are values
-  pub entries-longer : (value : ℕ → ℕ → ℕ) (n : ℕ) → ((i t : ℕ) → 1 ≤ i → i ≤ n → t < length (row_of rows i) → row_value rows i t ≡ value i t) → node ≤ n
-      → ((x : ℕ) → x < length more → slice_index more x ≡ value node (length (row_of rows node) + x))
-      → (i t : ℕ) → 1 ≤ i → i ≤ n → t < length (row_of longer i) → row_value longer i t ≡ value i t
+  pub entries-longer : (value : ℕ → ℕ → ℕ) (n : ℕ) → ((i t : ℕ) → 1 ≤ i → i ≤ n → t < length (timed_row rows i) → row_value rows i t ≡ value i t) → node ≤ n
+      → ((x : ℕ) → x < length more → slice_index more x ≡ value node (length (timed_row rows node) + x))
+      → (i t : ℕ) → 1 ≤ i → i ≤ n → t < length (timed_row longer i) → row_value longer i t ≡ value i t
   entries-longer value n entry inside values i t first last less =
       ⊎_elim
       (λ (same : i - 1 ≡ node - 1).
       let one : i ≡ node = omega arith in
-      let list : row_of longer i ≡ row_of rows node ++ more = list-own i same ∙ ap (λ (k : ℕ). row_of rows k ++ more) one in
+      let list : timed_row longer i ≡ timed_row rows node ++ more = list-own i same ∙ ap (λ (k : ℕ). timed_row rows k ++ more) one in
       ap (λ (xs : List ℕ). slice_index xs t) list
       ∙ ⊎_elim
-      (λ (early : t < length (row_of rows node)). get_or_append_left (row_of rows node) more 0 t early ∙ entry node t low inside early ∙ ap (λ (k : ℕ). value k t) (sym one))
-      (λ (late : length (row_of rows node) ≤ t).
-      let place : length (row_of rows node) + (t - length (row_of rows node)) ≡ t = omega arith in
-      let within_more : t - length (row_of rows node) < length more = omega (arith, less, ap length list, length-append (row_of rows node) more) in
-      get_or-append_right (row_of rows node) more (length (row_of rows node)) t 0 refl late
-      ∙ values (t - length (row_of rows node)) within_more
+      (λ (early : t < length (timed_row rows node)). get_or_append_left (timed_row rows node) more 0 t early ∙ entry node t low inside early ∙ ap (λ (k : ℕ). value k t) (sym one))
+      (λ (late : length (timed_row rows node) ≤ t).
+      let place : length (timed_row rows node) + (t - length (timed_row rows node)) ≡ t = omega arith in
+      let within_more : t - length (timed_row rows node) < length more = omega (arith, less, ap length list, length-append (timed_row rows node) more) in
+      get_or-append_right (timed_row rows node) more (length (timed_row rows node)) t 0 refl late
+      ∙ values (t - length (timed_row rows node)) within_more
       ∙ ap (λ (u : ℕ). value node u) place
       ∙ ap (λ (k : ℕ). value k t) (sym one))
-      (cases_lt t (length (row_of rows node))))
+      (cases_lt t (length (timed_row rows node))))
       (λ (off : i - 1 ≡ node - 1 → ⊥).
       ap (λ (xs : List ℕ). slice_index xs t) (list-other i off) ∙ entry i t first last (omega (arith, less, ap length (list-other i off))))
       (cases_eq (i - 1) (node - 1))
 
   -- rows stay rows where what is appended are values
-  pub rows-longer : (ask : Ask) (from : ℕ) → AreRows ask from rows → ((x : ℕ) → x < length more → slice_index more x ≡ asked_value ask node (length (row_of rows node) + x)) → AreRows ask from longer
+  pub rows-longer : (ask : Ask) (from : ℕ) → AreRows ask from rows → ((x : ℕ) → x < length more → slice_index more x ≡ asked_value ask node (length (timed_row rows node) + x)) → AreRows ask from longer
   rows-longer ask from are values = record {
     count = length-set rows (node - 1) _ ∙ are.count;
     room = λ i first last. cap-same i ∙ are.room i first last;
@@ -207,19 +207,19 @@ module _ (rows : List (Row ℕ)) (node : ℕ) (low : 1 ≤ node) (within : node 
   }
 
 -- ---- the first rows
-empty-read : (needs : List ℕ) (i : ℕ) → get_or (empty_rows needs) (i - 1) empty-row ≡ bank.row_of [] (need_at needs i)
+empty-read : (needs : List ℕ) (i : ℕ) → get_or (empty_rows needs) (i - 1) empty-row ≡ bank.row_of [] (node_need needs i)
 empty-read needs i = maps.get_or-map (λ (n : ℕ). bank.row_of [] n) needs (i - 1) 0
 
-empty-row_of : (needs : List ℕ) (i : ℕ) → row_of (empty_rows needs) i ≡ []
+empty-row_of : (needs : List ℕ) (i : ℕ) → timed_row (empty_rows needs) i ≡ []
 empty-row_of needs i = ap (λ (r : Row ℕ). r.items) (empty-read needs i)
 
 pub first-rows : NetworkLaws → (ask : Ask) → IsAsk ask → (ones : List ℕ) → ones ≡ replicate (asked_need ask ask.dest) ONE
-    → AreRows ask 0 (with_list (empty_rows ask.needs.now) (ask.dest - 1) (row_of (empty_rows ask.needs.now) ask.dest ++ ones))
+    → AreRows ask 0 (with_list (empty_rows ask.needs.now) (ask.dest - 1) (timed_row (empty_rows ask.needs.now) ask.dest ++ ones))
 first-rows laws ask is ones all =
     let rows : List (Row ℕ) = empty_rows ask.needs.now in
     let count : length rows ≡ asked_nodes ask = length-map ask.needs.now (λ (n : ℕ). bank.row_of [] n) ∙ is.needs.count in
     let inside : ask.dest ≤ length rows = omega (arith, count, is.dest.1) in
-    let none : length (row_of rows ask.dest) ≡ 0 = ap length (empty-row_of ask.needs.now ask.dest) in
+    let none : length (timed_row rows ask.dest) ≡ 0 = ap length (empty-row_of ask.needs.now ask.dest) in
     let many : length ones ≡ asked_need ask ask.dest = ap length all ∙ length-replicate (asked_need ask ask.dest) ONE in
     record {
       count = length-set rows (ask.dest - 1) _ ∙ count;
@@ -227,7 +227,7 @@ first-rows laws ask is ones all =
       entry = entries-longer rows ask.dest is.dest.0 inside ones (asked_value ask) (asked_nodes ask)
           (λ i t first last less. absurd (omega (arith, less, ap length (empty-row_of ask.needs.now i)))) is.dest.1
           (λ x less.
-          ap (λ (xs : List ℕ). slice_index xs x) all ∙ get_or-replicate (asked_need ask ask.dest) x ONE 0 (omega (arith, less, many)) ∙ sym (arrived laws ask is (length (row_of rows ask.dest) + x)));
+          ap (λ (xs : List ℕ). slice_index xs x) all ∙ get_or-replicate (asked_need ask ask.dest) x ONE 0 (omega (arith, less, many)) ∙ sym (arrived laws ask is (length (timed_row rows ask.dest) + x)));
       reach = λ i first last. omega arith;
       arrived = omega (arith, own-long rows ask.dest is.dest.0 inside ones, none, many);
     }
@@ -240,10 +240,10 @@ needs-fit needs most nodes all same small =
 
 -- ---- the answer
 pub value-read : (ask : Ask) (rows : List (Row ℕ)) (i x : ℕ) → AreRows ask (ask.budget + 1) rows → 1 ≤ i → i ≤ asked_nodes ask → asked_need ask i ≡ ask.budget + 1
-    → x ≡ get_or (row_of rows i) ask.budget x → x ≡ asked_value ask i ask.budget
+    → x ≡ get_or (timed_row rows i) ask.budget x → x ≡ asked_value ask i ask.budget
 value-read ask rows i x are low high need is =
-    let inside : ask.budget < length (row_of rows i) = omega (arith, are.reach i low high, need) in
-    is ∙ get_or_default (row_of rows i) ask.budget x 0 inside ∙ are.entry i ask.budget low high inside
+    let inside : ask.budget < length (timed_row rows i) = omega (arith, are.reach i low high, need) in
+    is ∙ get_or_default (timed_row rows i) ask.budget x 0 inside ∙ are.entry i ask.budget low high inside
 
 -- the choice by the rows is that of the values
 pub next-is : (laws : NetworkLaws) (ask : Ask) (is : IsAsk ask) → ask.bound ≡ Lower → (net : Net) → (asked_net ask).at ask.budget ≡ net → (rows : List (Row ℕ)) → AreRows ask (ask.budget + 1) rows
@@ -256,7 +256,7 @@ next-is laws ask is low net here rows are i off need =
 
 -- a block that is done
 pub block-rows : (ask : Ask) (from to : ℕ) (rows : List (Row ℕ)) → IsAsk ask → AreRows ask from rows
-    → ((k : ℕ) → k < length ask.visited.now → min to (asked_need ask (slice_index ask.visited.now k)) ≤ length (row_of rows (slice_index ask.visited.now k)))
+    → ((k : ℕ) → k < length ask.visited.now → min to (asked_need ask (slice_index ask.visited.now k)) ≤ length (timed_row rows (slice_index ask.visited.now k)))
     → AreRows ask to rows
 block-rows ask from to rows is are done = record {
   count = are.count;
@@ -264,12 +264,12 @@ block-rows ask from to rows is are done = record {
   entry = are.entry;
   reach = λ i first last.
       ⊎_elim
-      (λ (at : i ≡ ask.dest). subst (λ (n : ℕ). min to (asked_need ask n) ≤ length (row_of rows n)) (sym at) (omega (arith, are.arrived)))
+      (λ (at : i ≡ ask.dest). subst (λ (n : ℕ). min to (asked_need ask n) ≤ length (timed_row rows n)) (sym at) (omega (arith, are.arrived)))
       (λ (off : i ≡ ask.dest → ⊥).
       ⊎_elim
       (λ (some : 0 < asked_need ask i).
       let found = is.visited.all i first (omega (arith, last, is.needs.count)) off (omega arith) in
-      subst (λ (n : ℕ). min to (asked_need ask n) ≤ length (row_of rows n)) found.2 (done found.0 found.1))
+      subst (λ (n : ℕ). min to (asked_need ask n) ≤ length (timed_row rows n)) found.2 (done found.0 found.1))
       (λ (none : asked_need ask i ≤ 0). omega arith)
       (cases_lt 0 (asked_need ask i)))
       (cases_eq i ask.dest);

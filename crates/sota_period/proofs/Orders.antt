@@ -2,9 +2,9 @@
 use Rattle.std.proofs.Common.{ℕ, zero, suc, ◌+◌, ◌<◌, ◌≤◌, [], ◌∷◌, refl, arith}
 use Rattle.std.proofs.lemmas.List.Elements.{All-cons}
 use Rattle.sota_network.specs.Network.{Net}
-use Rattle.sota_period.specs.Periods.{AreInOrder, HasRoadsOf, start_at}
+use Rattle.sota_period.specs.Periods.{ArePeriodsInOrder, HasRoadsOf, start_at}
 
-pub one_in_order : (net : Net) → AreInOrder ((0, net) ∷ [])
+pub one_in_order : (net : Net) → ArePeriodsInOrder ((0, net) ∷ [])
 one_in_order net = record {
   some = omega arith;
   few = omega arith;
@@ -17,7 +17,7 @@ rises_once : (net other : Net) (start : ℕ) → 1 ≤ start → (k : ℕ) → k
 rises_once net other start late zero less = late
 rises_once net other start late (suc k) less = absurd (omega arith)
 
-pub two_in_order : (net other : Net) (start : ℕ) → 1 ≤ start → HasRoadsOf net other → AreInOrder ((0, net) ∷ (start, other) ∷ [])
+pub two_in_order : (net other : Net) (start : ℕ) → 1 ≤ start → HasRoadsOf net other → ArePeriodsInOrder ((0, net) ∷ (start, other) ∷ [])
 two_in_order net other start late roads = record {
   some = omega arith;
   few = omega arith;

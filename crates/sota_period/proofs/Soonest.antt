@@ -10,7 +10,7 @@ use Rattle.sota_network.specs.Walks.{Walk, empty, step, IsLeastTime}
 use Rattle.sota_network.specs.declared.network.Arc.{Arc}
 use Rattle.sota_period.specs.Laws.{NetworkLaws}
 use Rattle.sota_period.specs.Periods.{ArePeriods, HasRoadsOf, ends, first_net, no_net, period_at}
-use Rattle.sota_period.specs.Needs.{need_at, Serves, AreNeeds, need_by, IsBy, IsQuicker, IsQuickest, AreQuickest}
+use Rattle.sota_period.specs.Needs.{node_need, Serves, AreTimedNeeds, need_by, IsBy, IsQuicker, IsQuickest, AreQuickest}
 
 -- ---- periods by their places
 pub item-at : (periods : List (ℕ × Net)) (k : ℕ) (item : ℕ × Net) → k < length periods → item ≡ get_or periods k item → item.1 ≡ period_at periods k
@@ -106,7 +106,7 @@ needs-within budget times k d less =
     let inside : k < length times = omega (arith, less, length-map times (need_by budget)) in
     subst (λ (n : ℕ). n ≤ budget + 1) (sym (get_or-map (need_by budget) times k None d inside)) (need-within budget (get_or times k None))
 
-need-is : (budget : ℕ) (times : List (Option ℕ)) (i : ℕ) → 1 ≤ i → i ≤ length times → need_at (map (need_by budget) times) i ≡ need_by budget (get_or times (i - 1) None)
+need-is : (budget : ℕ) (times : List (Option ℕ)) (i : ℕ) → 1 ≤ i → i ≤ length times → node_need (map (need_by budget) times) i ≡ need_by budget (get_or times (i - 1) None)
 need-is budget times i low high = get_or-map (need_by budget) times (i - 1) None 0 (omega arith)
 
 module _ (net : Net) (dest origin : ℕ) (joined : (i j k n m : ℕ) → Walk net dest i j n → Walk net dest j k m → Walk net dest i k (n + m)) where
@@ -129,7 +129,7 @@ need-start net dest origin budget (Some n) least =
 
 module _ (laws : NetworkLaws) (periods : List (ℕ × Net)) (quick : Net) (are : AreQuickest periods quick) (dest origin budget : ℕ) (times : List (Option ℕ))
     (nodes : length times ≡ quick.nodes) (least : (i : ℕ) → IsNode quick i → IsLeastTime quick dest origin i (get_or times (i - 1) None)) where
-  pub origin-need : IsNode quick origin → need_at (map (need_by budget) times) origin ≡ budget + 1
+  pub origin-need : IsNode quick origin → node_need (map (need_by budget) times) origin ≡ budget + 1
   origin-need node = need-is budget times origin node.0 (omega (arith, node.1, nodes)) ∙ need-start quick dest origin budget (get_or times (origin - 1) None) (least origin node)
 
   serves-at : (joined : (i j k n m : ℕ) → Walk quick dest i j n → Walk quick dest j k m → Walk quick dest i k (n + m)) → (k : ℕ) → k < length periods → Serves (map (need_by budget) times) dest (period_at periods k)
@@ -140,11 +140,11 @@ module _ (laws : NetworkLaws) (periods : List (ℕ × Net)) (quick : Net) (are :
       let there : IsArc quick other = laws.arc quick e other are.valid found.1 in
       let away : other.tail ≢ dest = λ eq. off (sym same.tail ∙ eq) in
       let along = need-along quick dest origin joined budget e other found.1 away (same.open_arc opened) (get_or times (other.tail - 1) None) (get_or times (other.head - 1) None) (least other.tail there.tail) (least other.head there.head) in
-      let tail = ap (λ (i : ℕ). need_at (map (need_by budget) times) i) (sym same.tail) ∙ need-is budget times other.tail there.tail.0 (omega (arith, there.tail.1, nodes)) in
-      let head = ap (λ (i : ℕ). need_at (map (need_by budget) times) i) (sym same.head) ∙ need-is budget times other.head there.head.0 (omega (arith, there.head.1, nodes)) in
+      let tail = ap (λ (i : ℕ). node_need (map (need_by budget) times) i) (sym same.tail) ∙ need-is budget times other.tail there.tail.0 (omega (arith, there.tail.1, nodes)) in
+      let head = ap (λ (i : ℕ). node_need (map (need_by budget) times) i) (sym same.head) ∙ need-is budget times other.head there.head.0 (omega (arith, there.head.1, nodes)) in
       omega (arith, along, tail, head, same.least opened)
 
-  pub are-needs : (joined : (i j k n m : ℕ) → Walk quick dest i j n → Walk quick dest j k m → Walk quick dest i k (n + m)) → AreNeeds periods dest (budget + 1) (map (need_by budget) times)
+  pub are-needs : (joined : (i j k n m : ℕ) → Walk quick dest i j n → Walk quick dest j k m → Walk quick dest i k (n + m)) → AreTimedNeeds periods dest (budget + 1) (map (need_by budget) times)
   are-needs joined = record {
     count = length-map times (need_by budget) ∙ nodes ∙ are.nodes;
     within = needs-within budget times;
@@ -155,8 +155,8 @@ module _ (laws : NetworkLaws) (periods : List (ℕ × Net)) (quick : Net) (are :
 abbrev pub Found : List ℕ → ℕ → Type 0
 Found nodes i = (k : ℕ) × (k < length nodes) × (slice_index nodes k ≡ i)
 
-module _ (needs nodes : List ℕ) (dest k : ℕ) (all : (i : ℕ) → 1 ≤ i → i ≤ k → i ≢ dest → 1 ≤ need_at needs i → Found nodes i) where
-  pub visited-more : (i : ℕ) → 1 ≤ i → i ≤ k + 1 → i ≢ dest → 1 ≤ need_at needs i → Found (nodes ++ (k + 1) ∷ []) i
+module _ (needs nodes : List ℕ) (dest k : ℕ) (all : (i : ℕ) → 1 ≤ i → i ≤ k → i ≢ dest → 1 ≤ node_need needs i → Found nodes i) where
+  pub visited-more : (i : ℕ) → 1 ≤ i → i ≤ k + 1 → i ≢ dest → 1 ≤ node_need needs i → Found (nodes ++ (k + 1) ∷ []) i
   visited-more i low high off some =
       ⊎_elim
       (λ (last : i ≡ k + 1).
@@ -170,13 +170,13 @@ module _ (needs nodes : List ℕ) (dest k : ℕ) (all : (i : ℕ) → 1 ≤ i �
       (was.0, omega (arith, was.1, length-append nodes ((k + 1) ∷ [])), get_or_append_left nodes ((k + 1) ∷ []) 0 was.0 was.1 ∙ was.2))
       (cases_eq i (k + 1))
 
-  pub visited-same : (need_at needs (k + 1) ≡ 0) ⊎ (k + 1 ≡ dest) → (i : ℕ) → 1 ≤ i → i ≤ k + 1 → i ≢ dest → 1 ≤ need_at needs i → Found nodes i
+  pub visited-same : (node_need needs (k + 1) ≡ 0) ⊎ (k + 1 ≡ dest) → (i : ℕ) → 1 ≤ i → i ≤ k + 1 → i ≢ dest → 1 ≤ node_need needs i → Found nodes i
   visited-same none i low high off some =
       ⊎_elim
       (λ (last : i ≡ k + 1).
       absurd (⊎_elim
-      (λ (zero_is : need_at needs (k + 1) ≡ 0).
-      let here : need_at needs i ≡ need_at needs (k + 1) = ap (need_at needs) last in
+      (λ (zero_is : node_need needs (k + 1) ≡ 0).
+      let here : node_need needs i ≡ node_need needs (k + 1) = ap (node_need needs) last in
       let bad : 1 ≤ 0 = omega (arith, some, here, zero_is) in
       let contra : ⊥ = omega (arith, bad) in contra)
       (λ (at : k + 1 ≡ dest). off (last ∙ at))

@@ -36,8 +36,8 @@ abbrev pub has_node : ℕ → ℕ → Bool
 has_node nodes i = nat_le 1 i && nat_le i nodes
 
 -- too many timed cells, or else too many timed broad cells
-abbrev pub cells_fault : List (ℕ × Net) → ℕ → Option TimedFault
-cells_fault periods budget =
+abbrev pub timed_cells_fault : List (ℕ × Net) → ℕ → Option TimedFault
+timed_cells_fault periods budget =
     if nat_lt TIMED_LIMIT (timed_cells (first_net periods).nodes budget)
     then Some (TimedCells (timed_cells (first_net periods).nodes budget)) else
     if nat_lt TIMED_BROAD_LIMIT (timed_broad periods budget)
@@ -48,7 +48,7 @@ abbrev pub timed_fault : List (ℕ × Net) → ℕ → ℕ → ℕ → Option Ti
 timed_fault periods origin dest budget =
     if not (has_node (first_net periods).nodes origin) then Some NoOrigin else
     if not (has_node (first_net periods).nodes dest) then Some NoDest else
-    if nat_lt BUDGET_LIMIT budget then Some Budget else cells_fault periods budget
+    if nat_lt BUDGET_LIMIT budget then Some Budget else timed_cells_fault periods budget
 
 -- the two values and the choice at the origin
 abbrev pub timed_answer : List (ℕ × Net) → ℕ → ℕ → ℕ → ℕ → TimedAnswer

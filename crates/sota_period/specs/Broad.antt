@@ -9,26 +9,26 @@ use Rattle.sota_network.specs.Region.{NARROW}
 use Rattle.sota_network.specs.declared.network.Arc.{Arc}
 use Rattle.sota_online.specs.Summer.{SummerState, unfed}
 use Rattle.sota_fill.specs.Fed.{IsFed, IsSameSummer}
-use Rattle.sota_period.specs.Needs.{need_at}
-use Rattle.sota_period.specs.Rows.{row_of, row_value, row_room}
+use Rattle.sota_period.specs.Needs.{node_need}
+use Rattle.sota_period.specs.Rows.{timed_row, row_value, row_room}
 
 -- the summers that stand for each arc by its number, where it has one
 abbrev pub SummerList : Type 0 → Type 0
 SummerList Z = List (Option (Box Z Global))
 
-abbrev pub state_of : {Z : Type 0} → (Z → SummerState) → Option (Box Z Global)
+abbrev pub summer_state : {Z : Type 0} → (Z → SummerState) → Option (Box Z Global)
     → Option SummerState
-state_of state None = None
-state_of state (Some summer) = Some (state summer.value)
+summer_state state None = None
+summer_state state (Some summer) = Some (state summer.value)
 
 abbrev pub state_at : {Z : Type 0} → (Z → SummerState) → SummerList Z → ℕ → Option SummerState
-state_at state broad e = state_of state (slice_index_or broad (e - 1) None)
+state_at state broad e = summer_state state (slice_index_or broad (e - 1) None)
 
 -- whether the sums of an arc are made by a summer: its tail needs a budget from `from` on, and the
 -- arc has more than 32 ticks within what its tail needs
 abbrev pub is_summed : List ℕ → ℕ → Arc → Bool
-is_summed needs from arc = nat_lt from (need_at needs arc.tail)
-    && nat_lt NARROW (length (within (need_at needs arc.tail - 1) arc.time))
+is_summed needs from arc = nat_lt from (node_need needs arc.tail)
+    && nat_lt NARROW (length (within (node_need needs arc.tail - 1) arc.time))
 
 -- a summer of an arc that was fed nothing yet, with room for so many values, whose sums are read at
 -- the budgets from one on
@@ -36,29 +36,29 @@ abbrev pub unfed_from : ℕ → ℕ → Arc → SummerState
 unfed_from width from arc = unfed width (from + 1 - least_tick arc.time) arc.time
 
 -- such a summer where it is wanted, with room for what the head needs
-abbrev pub first_state : List ℕ → ℕ → Arc → Option SummerState
-first_state needs from arc =
-    if is_summed needs from arc then Some (unfed_from (need_at needs arc.head) from arc) else None
+abbrev pub first_summer_state : List ℕ → ℕ → Arc → Option SummerState
+first_summer_state needs from arc =
+    if is_summed needs from arc then Some (unfed_from (node_need needs arc.head) from arc) else None
 
 -- how long the kernel of a summer is, 0 where there is none
-abbrev pub kernel_places : Option SummerState → ℕ
-kernel_places None = 0
-kernel_places (Some state) = length state.kernel
+abbrev pub kernel_length : Option SummerState → ℕ
+kernel_length None = 0
+kernel_length (Some state) = length state.kernel
 
 -- there is room to work for it
 abbrev pub IsWorkFor : ℕ → Option SummerState → Type 0
-IsWorkFor places state = kernel_places state ≤ places
+IsWorkFor places state = kernel_length state ≤ places
 
 -- the sums of an arc's summer may be read at the budgets from one on, and there is room to work
 -- for its kernel
-pub record IsReady (arc : Arc) (from places : ℕ) (state : SummerState) : Type 0 where
+pub record IsReadySummer (arc : Arc) (from places : ℕ) (state : SummerState) : Type 0 where
   pub start : state.start ≤ from + 1 - least_tick arc.time
   pub work : length state.kernel ≤ places
 
 -- the same of all summers
 abbrev pub AllReady : Net → ℕ → ℕ → (ℕ → Option SummerState) → Type 0
 AllReady net from places at = (e : ℕ) (arc : Arc) (state : SummerState) → arc_at net e ≡ Some arc
-    → at e ≡ Some state → IsReady arc from places state
+    → at e ≡ Some state → IsReadySummer arc from places state
 
 -- the summers that stand there now are those that stood there before, but for what they were fed
 abbrev pub AreSame : (ℕ → Option SummerState) → (ℕ → Option SummerState) → Type 0
@@ -69,18 +69,18 @@ AreSame before after = (e : ℕ) (state : SummerState) → 1 ≤ e → after e �
 pub record IsFedArc (rows : List (Row ℕ)) (arc : Arc) (state : SummerState) : Type 0 where
   pub open_arc : is_closed arc.time ≡ false
   pub fed : IsFed state arc.time 0 (row_value rows arc.head)
-  pub count : length state.values ≤ length (row_of rows arc.head)
+  pub count : length state.values ≤ length (timed_row rows arc.head)
   pub total : length state.values + state.room ≡ row_room rows arc.head
 
 -- the same of all summers
-abbrev pub AllFed : List (Row ℕ) → Net → (ℕ → Option SummerState) → Type 0
-AllFed rows net at = (e : ℕ) (arc : Arc) (state : SummerState) → arc_at net e ≡ Some arc
+abbrev pub AllFedRows : List (Row ℕ) → Net → (ℕ → Option SummerState) → Type 0
+AllFedRows rows net at = (e : ℕ) (arc : Arc) (state : SummerState) → arc_at net e ≡ Some arc
     → at e ≡ Some state → IsFedArc rows arc state
 
 -- what the sums of an open arc read at budgets below `to` stands in its head's row
 abbrev pub IsRead : List (Row ℕ) → ℕ → Arc → Type 0
 IsRead rows to arc = is_closed arc.time ≡ false
-    → to ≤ least_tick arc.time + length (row_of rows arc.head)
+    → to ≤ least_tick arc.time + length (timed_row rows arc.head)
 
 -- the same of all arcs that leave node i
 abbrev pub AllRead : List (Row ℕ) → ℕ → Net → ℕ → Type 0
@@ -92,5 +92,5 @@ AllRead rows to net i = (e : ℕ) (arc : Arc) → arc_at net e ≡ Some arc → 
 pub record AreSummers {Z : Type 0} (state : Z → SummerState) (rows : List (Row ℕ)) (net : Net)
     (from places : ℕ) (broad : SummerList Z) : Type 0 where
   pub count : length broad ≡ length net.arcs
-  pub fed : AllFed rows net (state_at state broad)
+  pub fed : AllFedRows rows net (state_at state broad)
   pub ready : AllReady net from places (state_at state broad)

@@ -8,19 +8,19 @@ use Rattle.sota_network.specs.declared.network.Arc.{Arc}
 use Rattle.sota_period.specs.Periods.{first_net, period_at}
 
 -- the need of node i
-abbrev pub need_at : List ℕ → ℕ → ℕ
-need_at needs i = slice_index needs (i - 1)
+abbrev pub node_need : List ℕ → ℕ → ℕ
+node_need needs i = slice_index needs (i - 1)
 
 -- who leaves a node with less than its need comes to the head of an open arc with less than the
 -- head's need. None leaves the destination
 abbrev pub Serves : List ℕ → ℕ → Net → Type 0
 Serves needs dest net = (e : ℕ) (arc : Arc) → arc_at net e ≡ Some arc
     → is_closed arc.time ≡ false → arc.tail ≢ dest
-    → need_at needs arc.tail ≤ need_at needs arc.head + least_tick arc.time
+    → node_need needs arc.tail ≤ node_need needs arc.head + least_tick arc.time
 
 -- needs of all nodes up to `most`, whatever the period. One of 0 says that no trip comes to the
 -- node in time
-pub record AreNeeds (periods : List (ℕ × Net)) (dest most : ℕ) (needs : List ℕ) : Type 0 where
+pub record AreTimedNeeds (periods : List (ℕ × Net)) (dest most : ℕ) (needs : List ℕ) : Type 0 where
   pub count : length needs ≡ (first_net periods).nodes
   pub within : All (λ n. n ≤ most) needs
   pub serves : All (λ p. Serves needs dest p.1) periods
@@ -63,6 +63,6 @@ pub record AreQuickest (periods : List (ℕ × Net)) (quick : Net) : Type 0 wher
 
 -- the numbers of all nodes with a need, but not of the destination
 pub record AreVisited (needs : List ℕ) (dest : ℕ) (nodes : List ℕ) : Type 0 where
-  pub all : (i : ℕ) → 1 ≤ i → i ≤ length needs → i ≢ dest → 1 ≤ need_at needs i
+  pub all : (i : ℕ) → 1 ≤ i → i ≤ length needs → i ≢ dest → 1 ≤ node_need needs i
       → (k : ℕ) × (k < length nodes) × (slice_index nodes k ≡ i)
   pub only : All (λ i. (1 ≤ i) × (i ≤ length needs) × (i ≢ dest)) nodes

@@ -65,7 +65,7 @@ abbrev pub PERIOD_LIMIT : ℕ
 PERIOD_LIMIT = 32
 
 -- periods that follow one another from the first tick of the clock on, over the same roads
-pub record AreInOrder (periods : List (ℕ × Net)) : Type 0 where
+pub record ArePeriodsInOrder (periods : List (ℕ × Net)) : Type 0 where
   pub some : 1 ≤ length periods
   pub few : length periods ≤ PERIOD_LIMIT
   pub first : start_at periods 0 ≡ 0
@@ -74,7 +74,7 @@ pub record AreInOrder (periods : List (ℕ × Net)) : Type 0 where
 
 -- such periods whose masses have one denominator
 pub record ArePeriods (periods : List (ℕ × Net)) : Type 0 where
-  pub order : AreInOrder periods
+  pub order : ArePeriodsInOrder periods
   pub valid : All (λ p. IsNet p.1) periods
   pub scale : All (λ p. p.1.scale ≡ (first_net periods).scale) periods
 

@@ -11,17 +11,17 @@ use Rattle.sota_network.specs.declared.network.Arc.{Arc}
 use Rattle.sota_sums.specs.declared.bound.Bound.{Bound}
 use Rattle.sota_sums.specs.declared.bound.Bound.TheVariants.{Lower, Upper}
 use Rattle.sota_period.specs.Periods.{TimedNet, ArePeriods, first_net, timed_net}
-use Rattle.sota_period.specs.Needs.{AreNeeds, AreVisited, need_at}
+use Rattle.sota_period.specs.Needs.{AreTimedNeeds, AreVisited, node_need}
 use Rattle.sota_period.specs.Grid.{timed_value}
 use Rattle.sota_period.specs.declared.ask.Ask.{Ask}
 
 -- the row of node i: its values at budgets from 0 on
-abbrev pub row_of : List (Row ℕ) → ℕ → List ℕ
-row_of rows i = list_at rows (i - 1)
+abbrev pub timed_row : List (Row ℕ) → ℕ → List ℕ
+timed_row rows i = list_at rows (i - 1)
 
 -- the value of node i at budget t, 0 where its row ends before
 abbrev pub row_value : List (Row ℕ) → ℕ → ℕ → ℕ
-row_value rows i t = slice_index (row_of rows i) t
+row_value rows i t = slice_index (timed_row rows i) t
 
 -- how many values its row can have
 abbrev pub row_room : List (Row ℕ) → ℕ → ℕ
@@ -44,7 +44,7 @@ abbrev pub asked_nodes : Ask → ℕ
 asked_nodes ask = (first_net ask.timed.now).nodes
 
 abbrev pub asked_need : Ask → ℕ → ℕ
-asked_need ask i = need_at ask.needs.now i
+asked_need ask i = node_need ask.needs.now i
 
 -- an ask within the limits
 pub record IsAsk (ask : Ask) : Type 0 where
@@ -52,7 +52,7 @@ pub record IsAsk (ask : Ask) : Type 0 where
   pub dest : IsNode (first_net ask.timed.now) ask.dest
   pub budget : ask.budget ≤ BUDGET_LIMIT
   pub deadline : ask.budget ≤ ask.deadline
-  pub needs : AreNeeds ask.timed.now ask.dest (ask.budget + 1) ask.needs.now
+  pub needs : AreTimedNeeds ask.timed.now ask.dest (ask.budget + 1) ask.needs.now
   pub total : sum ask.needs.now ≤ 2 ^ 31
   pub visited : AreVisited ask.needs.now ask.dest ask.visited.now
 
@@ -61,22 +61,22 @@ pub record IsAsk (ask : Ask) : Type 0 where
 pub record AreRows (ask : Ask) (upto : ℕ) (rows : List (Row ℕ)) : Type 0 where
   pub count : length rows ≡ asked_nodes ask
   pub room : (i : ℕ) → 1 ≤ i → i ≤ asked_nodes ask → row_room rows i ≡ asked_need ask i
-  pub entry : (i t : ℕ) → 1 ≤ i → i ≤ asked_nodes ask → t < length (row_of rows i)
+  pub entry : (i t : ℕ) → 1 ≤ i → i ≤ asked_nodes ask → t < length (timed_row rows i)
       → row_value rows i t ≡ asked_value ask i t
   pub reach : (i : ℕ) → 1 ≤ i → i ≤ asked_nodes ask
-      → min upto (asked_need ask i) ≤ length (row_of rows i)
-  pub arrived : asked_need ask ask.dest ≤ length (row_of rows ask.dest)
+      → min upto (asked_need ask i) ≤ length (timed_row rows i)
+  pub arrived : asked_need ask ask.dest ≤ length (timed_row rows ask.dest)
 
 -- rows that begin with those of before
 pub record AreLonger (old new : List (Row ℕ)) : Type 0 where
   pub count : length new ≡ length old
   pub room : (i : ℕ) → row_room new i ≡ row_room old i
-  pub long : (i : ℕ) → length (row_of old i) ≤ length (row_of new i)
-  pub entry : (i t : ℕ) → t < length (row_of old i) → row_value new i t ≡ row_value old i t
+  pub long : (i : ℕ) → length (timed_row old i) ≤ length (timed_row new i)
+  pub entry : (i t : ℕ) → t < length (timed_row old i) → row_value new i t ≡ row_value old i t
 
 -- at these budgets this is the network
-abbrev pub Holds : Ask → Net → ℕ → ℕ → Type 0
-Holds ask net from to = (t : ℕ) → from ≤ t → t < to → (asked_net ask).at t ≡ net
+abbrev pub PeriodHolds : Ask → Net → ℕ → ℕ → Type 0
+PeriodHolds ask net from to = (t : ℕ) → from ≤ t → t < to → (asked_net ask).at t ≡ net
 
 -- no open arc is passed in less time
 abbrev pub TakesAtLeast : ℕ → List Arc → Type 0
@@ -88,5 +88,5 @@ pub record IsBlock (ask : Ask) (net : Net) (from count : ℕ) : Type 0 where
   pub asked : IsAsk ask
   pub some : 1 ≤ count
   pub limit : from + count ≤ ask.budget + 1
-  pub holds : Holds ask net from (from + count)
+  pub holds : PeriodHolds ask net from (from + count)
   pub takes : TakesAtLeast count net.arcs

@@ -1,7 +1,7 @@
 // Blocks of budgets at which no value reads another.
 ghost use Rattle.std.specs.Prelude.{◌≡◌, ◌+◌, ◌<◌, ◌≤◌, false, length, OnOk};
 ghost use Rattle.sota_hist.specs.Time.{is_closed, least_tick};
-ghost use Rattle.sota_period.specs.Rows.{AreRows, Holds, IsAsk, IsBlock, TakesAtLeast};
+ghost use Rattle.sota_period.specs.Rows.{AreRows, IsAsk, IsBlock, PeriodHolds, TakesAtLeast};
 ghost use Rattle.sota_period.specs.Broad.{AreSummers};
 
 use crate::ask::Ask;
@@ -87,7 +87,7 @@ pub(crate) fn fill_period<Z: Summer, M: Ledger>(
     products: &mut Steps<M>,
 ) -> Result<(), NoMemory>
     requires ask { IsAsk ask.now }
-    requires holds { Holds ask.now network.now from to }
+    requires holds { PeriodHolds ask.now network.now from to }
     requires some { from < to }
     requires limit { to ≤ ask.now.budget + 1 }
     requires rows { AreRows ask.now from rows.old }

@@ -6,11 +6,11 @@ ghost use Rattle.std.specs.Option.{option_copied, option_map};
 ghost use Rattle.sota_units.specs.Limits.{BUDGET_LIMIT};
 ghost use Rattle.sota_network.specs.Network.{arc_at};
 ghost use Rattle.sota_network.specs.declared.network.Arc.{Arc};
-ghost use Rattle.sota_period.specs.Rows.{row_of};
+ghost use Rattle.sota_period.specs.Rows.{timed_row};
 ghost use Rattle.sota_online.specs.Summer.{SummerState};
-ghost use Rattle.sota_period.specs.Broad.{AllFed, AreSame, IsWorkFor};
-ghost use Rattle.sota_period.specs.Broad.{first_state, is_summed, kernel_places};
-ghost use Rattle.sota_period.specs.Broad.{state_at, state_of};
+ghost use Rattle.sota_period.specs.Broad.{AllFedRows, AreSame, IsWorkFor};
+ghost use Rattle.sota_period.specs.Broad.{first_summer_state, is_summed, kernel_length};
+ghost use Rattle.sota_period.specs.Broad.{state_at, summer_state};
 
 use crate::table::{known_of, row_of};
 use sota_bank::RowBank;
@@ -43,7 +43,8 @@ fn make_summer<Z: Summer>(
     requires tail { (1 ≤ arc.now.tail) × (arc.now.tail ≤ length needs.now) }
     requires head { (1 ≤ arc.now.head) × (arc.now.head ≤ length needs.now) }
     requires within { All (λ n. n ≤ BUDGET_LIMIT + 1) needs.now }
-    ensures { IfOk result (λ found. state_of Z.state found ≡ first_state needs.now from arc.now) }
+    ensures { IfOk result (λ found.
+        summer_state Z.state found ≡ first_summer_state needs.now from arc.now) }
 {
     if !is_summed(arc, needs, from) {
         return Ok(None);
@@ -56,7 +57,7 @@ fn make_summer<Z: Summer>(
 
 /// How long the kernel of a summer is, 0 where there is none.
 fn places_of<Z: Summer>(found: &Option<Box<Z>>) -> u32
-    ensures { result ≡ kernel_places (state_of Z.state found.now) }
+    ensures { result ≡ kernel_length (summer_state Z.state found.now) }
 {
     match found {
         Some(summer) => summer.span(),
@@ -74,10 +75,10 @@ pub(crate) fn make_summers<Z: Summer>(
 ) -> Result<(Vec<Option<Box<Z>>>, u32), NoMemory>
     requires nodes { network.now.nodes ≡ length needs.now }
     requires within { All (λ n. n ≤ BUDGET_LIMIT + 1) needs.now }
-    ensures states { IfOk result (λ made.
-        map (state_of Z.state) made.0.items ≡ map (first_state needs.now from) network.now.arcs) }
+    ensures states { IfOk result (λ made. map (summer_state Z.state) made.0.items
+        ≡ map (first_summer_state needs.now from) network.now.arcs) }
     ensures places { IfOk result (λ made.
-        All (λ arc. IsWorkFor made.1 (first_state needs.now from arc)) network.now.arcs) }
+        All (λ arc. IsWorkFor made.1 (first_summer_state needs.now from arc)) network.now.arcs) }
     ensures within { IfOk result (λ made. made.1 ≤ BUDGET_LIMIT + 1) }
 {
     let arcs = network.arcs();
@@ -103,14 +104,14 @@ pub(crate) fn feed_arc<Z: Summer, M: Ledger>(
     requires number { (1 ≤ number) × (number ≤ length network.now.arcs) }
     requires broad { length broad.old ≡ length network.now.arcs }
     requires rows { network.now.nodes ≤ length rows.now }
-    requires fed { AllFed rows.now network.now (state_at Z.state broad.old) }
+    requires fed { AllFedRows rows.now network.now (state_at Z.state broad.old) }
     requires work { (arc : Arc) (state : SummerState) → arc_at network.now number ≡ Some arc
         → state_at Z.state broad.old number ≡ Some state → length state.kernel ≤ workspace.old }
-    ensures fed { AllFed rows.now network.now (state_at Z.state broad.new) }
+    ensures fed { AllFedRows rows.now network.now (state_at Z.state broad.new) }
     ensures same { AreSame (state_at Z.state broad.old) (state_at Z.state broad.new) }
     ensures reach { (arc : Arc) (state : SummerState) → arc_at network.now number ≡ Some arc
         → state_at Z.state broad.new number ≡ Some state
-        → length (row_of rows.now arc.head) ≤ length state.values }
+        → length (timed_row rows.now arc.head) ≤ length state.values }
     ensures length { length broad.new ≡ length broad.old }
     ensures work { workspace.new ≡ workspace.old }
 {

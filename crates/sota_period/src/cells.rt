@@ -5,7 +5,8 @@ ghost use Rattle.sota_units.specs.Limits.{BUDGET_LIMIT};
 ghost use Rattle.sota_network.specs.Network.{IsNode};
 ghost use Rattle.sota_network.specs.Region.{broad_at};
 ghost use Rattle.sota_period.specs.Periods.{ArePeriods, first_net, PERIOD_LIMIT};
-ghost use Rattle.sota_period.specs.Answers.{timed_fault, timed_broad, timed_cells, cells_fault};
+ghost use Rattle.sota_period.specs.Answers.{timed_fault, timed_broad, timed_cells};
+ghost use Rattle.sota_period.specs.Answers.{timed_cells_fault};
 ghost use Rattle.sota_period.specs.Answers.{TIMED_LIMIT, has_node};
 
 use crate::fault::TimedFault;
@@ -57,7 +58,7 @@ fn has_node(nodes: u32, node: u32) -> bool
 fn find_cells_fault(timed: &Timed, nodes: u32, budget: u32) -> Option<TimedFault>
     requires nodes { nodes ≡ (first_net timed.now).nodes }
     requires budget { budget ≤ BUDGET_LIMIT }
-    ensures value { result ≡ cells_fault timed.now budget }
+    ensures value { result ≡ timed_cells_fault timed.now budget }
     ensures cells { IfNone result (timed_cells nodes budget ≤ TIMED_LIMIT) }
 {
     let cells = u64::from(nodes) * (u64::from(budget) + 1);

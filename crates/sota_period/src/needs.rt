@@ -5,8 +5,8 @@ ghost use Rattle.sota_hist.specs.Time.{is_closed, least_tick};
 ghost use Rattle.sota_network.specs.Network.{IsNode, arc_at};
 ghost use Rattle.sota_network.specs.declared.network.Arc.{Arc};
 ghost use Rattle.sota_period.specs.Periods.{ArePeriods, first_net, period_at};
-ghost use Rattle.sota_period.specs.Needs.{AreNeeds, AreQuickest, AreVisited, IsBy, IsCertain};
-ghost use Rattle.sota_period.specs.Needs.{IsQuickest, need_at, need_by};
+ghost use Rattle.sota_period.specs.Needs.{AreTimedNeeds, AreQuickest, AreVisited, IsBy, IsCertain};
+ghost use Rattle.sota_period.specs.Needs.{IsQuickest, node_need, need_by};
 
 use crate::laws::network_laws;
 use crate::timed::Timed;
@@ -116,8 +116,8 @@ pub(crate) fn find_needs(
 ) -> Result<Vec<u32>, NoMemory>
     requires origin { IsNode (first_net timed.now) origin }
     requires budget { budget ≤ BUDGET_LIMIT }
-    ensures needs { IfOk result (λ needs. AreNeeds timed.now dest (budget + 1) needs.items) }
-    ensures origin { IfOk result (λ needs. need_at needs.items origin ≡ budget + 1) }
+    ensures needs { IfOk result (λ needs. AreTimedNeeds timed.now dest (budget + 1) needs.items) }
+    ensures origin { IfOk result (λ needs. node_need needs.items origin ≡ budget + 1) }
 {
     network_laws();
     reaches_by_walks();

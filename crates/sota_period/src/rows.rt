@@ -8,7 +8,7 @@ ghost use Rattle.sota_network.specs.Network.{IsNode};
 ghost use Rattle.sota_network.specs.Grid.{best_sum};
 ghost use Rattle.sota_sums.specs.Bounds.{rounded_in};
 ghost use Rattle.sota_period.specs.Rows.{AreLonger, AreRows, IsBlock};
-ghost use Rattle.sota_period.specs.Rows.{asked_need, row_of, row_room, row_value};
+ghost use Rattle.sota_period.specs.Rows.{asked_need, row_room, row_value, timed_row};
 ghost use Rattle.sota_period.specs.Broad.{AllRead, AreSummers};
 
 use crate::ask::Ask;
@@ -40,7 +40,7 @@ fn append_values<Z: Summer, M: Ledger>(
     requires node { IsNode network.now node }
     requires rows { network.now.nodes ≤ length rows.old }
     requires limit { at + length bests.old ≤ BUDGET_LIMIT + 1 }
-    requires at { at ≡ length (row_of rows.old node) }
+    requires at { at ≡ length (timed_row rows.old node) }
     requires room { at + length bests.old ≤ row_room rows.old node }
     requires sums { length sums.old ≡ length bests.old }
     requires grains { length grains.old ≡ length bests.old }
@@ -49,7 +49,7 @@ fn append_values<Z: Summer, M: Ledger>(
     requires small { (x : ℕ) → x < length bests.old
         → best_sum network.now (row_value rows.old) node (at + x) ≤ network.now.scale * ONE }
     ensures rows { rows.new
-        ≡ with_list rows.old (node - 1) (row_of rows.old node ++ grains.new) }
+        ≡ with_list rows.old (node - 1) (timed_row rows.old node ++ grains.new) }
     ensures values { (x : ℕ) → x < length bests.old → slice_index grains.new x
         ≡ rounded_in bound network.now.scale
         (best_sum network.now (row_value rows.old) node (at + x)) }
@@ -93,7 +93,7 @@ pub(crate) fn extend_row<Z: Summer, M: Ledger>(
     ensures rows { AreRows ask.now from rows.new }
     ensures longer { AreLonger rows.old rows.new }
     ensures reach { min (from + length bests.old) (asked_need ask.now node)
-        ≤ length (row_of rows.new node) }
+        ≤ length (timed_row rows.new node) }
     ensures summers { AreSummers Z.state rows.new network.now from workspace.new broad.new }
     ensures sums { length sums.new ≡ length sums.old }
     ensures bests { length bests.new ≡ length bests.old }

@@ -4,7 +4,7 @@ ghost use Rattle.std.specs.Prelude.{IfOk, IfErr, IfNone, OnOk};
 ghost use Rattle.std.specs.List.{All};
 ghost use Rattle.sota_units.specs.Limits.{NODE_LIMIT};
 ghost use Rattle.sota_network.specs.Network.{IsNet};
-ghost use Rattle.sota_period.specs.Periods.{AreInOrder, ArePeriods, PERIOD_LIMIT};
+ghost use Rattle.sota_period.specs.Periods.{ArePeriodsInOrder, ArePeriods, PERIOD_LIMIT};
 ghost use Rattle.sota_period.specs.Periods.{first_net, scale_differs, start_at, net_at, period_at};
 
 use sota_network::Network;
@@ -40,7 +40,7 @@ impl Timed {
     /// ScaleDiffers comes exactly where the denominator of one is not that of the first, with the
     /// first such place. It takes no memory.
     pub fn new(periods: Vec<(u32, Network)>) -> Result<Timed, ScaleDiffers>
-        requires { AreInOrder periods.items }
+        requires { ArePeriodsInOrder periods.items }
         ensures value { IfOk result (λ timed. timed ≡ periods.items) }
         ensures same { OnOk result (scale_differs periods.items ≡ None) }
         ensures differs { IfErr result (λ refused.

@@ -1,9 +1,9 @@
 use Rattle.std.proofs.Common.{ℕ, ◌≡◌, ◌+◌, ◌≤◌, Option, length, Some, sym, ◌∙◌, ap, arith}
 use Rattle.sota_network.specs.Grid.{plain_sum}
 use Rattle.sota_network.specs.declared.network.Arc.{Arc}
-use Rattle.sota_period.specs.Rows.{row_of, row_value}
+use Rattle.sota_period.specs.Rows.{timed_row, row_value}
 use Rattle.sota_online.specs.Summer.{SummerState}
-use Rattle.sota_period.specs.Broad.{AreSummers, IsFedArc, IsReady, state_at}
+use Rattle.sota_period.specs.Broad.{AreSummers, IsFedArc, IsReadySummer, state_at}
 use Rattle.sota_period.proofs.Feeding.{fed-summers, same-ready}
 use Rattle.sota_period.proofs.bests.sums_of.Given as given
 use Rattle.sota_period.proofs.bests.sums_of.Goals as goal
@@ -19,14 +19,14 @@ pub broad_sums-requires-clause-known : goal.broad_sums-requires-clause-known
 broad_sums-requires-clause-known g c =
     let arc : Arc = c.numbered-arc.result.now in
     let fed : IsFedArc c.args.rows.now arc (g.Z.Summer.state c.in-Some.summer.now) = c.feed_arc.ensures.fed c.args.number arc (g.Z.Summer.state c.in-Some.summer.now) c.numbered-arc.ensures.value (sym c.in-Some.ensures) in
-    let reach : length (row_of c.args.rows.now arc.head) ≤ length (g.Z.Summer.state c.in-Some.summer.now).values = c.feed_arc.ensures.reach arc (g.Z.Summer.state c.in-Some.summer.now) c.numbered-arc.ensures.value (sym c.in-Some.ensures) in
+    let reach : length (timed_row c.args.rows.now arc.head) ≤ length (g.Z.Summer.state c.in-Some.summer.now).values = c.feed_arc.ensures.reach arc (g.Z.Summer.state c.in-Some.summer.now) c.numbered-arc.ensures.value (sym c.in-Some.ensures) in
     omega (arith, reach, c.requires.read arc c.numbered-arc.ensures.value fed.open_arc, c.get-least.ensures, c.least.ensures.value)
 
 pub broad_sums-requires-clause-start : goal.broad_sums-requires-clause-start
 broad_sums-requires-clause-start g c =
     let arc : Arc = c.numbered-arc.result.now in
     let now : ℕ → Option SummerState = state_at g.Z.Summer.state c.feed_arc.new.broad in
-    let ready : IsReady arc c.args.from c.args.workspace.now (g.Z.Summer.state c.in-Some.summer.now) =
+    let ready : IsReadySummer arc c.args.from c.args.workspace.now (g.Z.Summer.state c.in-Some.summer.now) =
     same-ready c.args.network.now c.args.from c.args.workspace.now (state_at g.Z.Summer.state c.args.broad.now) now c.feed_arc.ensures.same c.requires.summers.ready
     c.args.number arc (g.Z.Summer.state c.in-Some.summer.now) c.numbered-arc.ensures.value (sym c.in-Some.ensures) in
     omega (arith, ready.start, c.get-least.ensures, c.least.ensures.value)

@@ -3,7 +3,7 @@ use Rattle.std.proofs.lemmas.Bool.{cases_lt}
 use Rattle.std.proofs.lemmas.List.{get_or_default}
 use Rattle.sota_network.specs.Network.{Net}
 use Rattle.sota_period.specs.declared.ask.Ask.{Ask}
-use Rattle.sota_period.specs.Rows.{IsBlock, asked_need, asked_nodes, row_of}
+use Rattle.sota_period.specs.Rows.{IsBlock, asked_need, asked_nodes, timed_row}
 use Rattle.sota_period.proofs.Filling.{nodes-held, block-rows}
 use Rattle.sota_period.proofs.blocks.fill_block.Goals as goal
 
@@ -44,7 +44,7 @@ loop-node-preserved g c =
           (λ (last : k ≤ m).
           let same : m ≡ k = omega arith in
           let at : node ≡ slice_index ask.visited.now m = place ∙ ap (λ (n : ℕ). slice_index ask.visited.now n) (sym same) in
-          subst (λ (n : ℕ). min (c.args.from + length c.args.bests.now) (asked_need ask n) ≤ length (row_of c.extend_row.new.rows n)) at
+          subst (λ (n : ℕ). min (c.args.from + length c.args.bests.now) (asked_need ask n) ≤ length (timed_row c.extend_row.new.rows n)) at
           (omega (arith, c.extend_row.ensures.reach, c.loop-node.invariant.bests)))
           (cases_lt m k);
     }

@@ -1,5 +1,5 @@
 use Rattle.std.proofs.Common.{ℕ, ◌≡◌, ◌+◌, ◌<◌, ◌≤◌, min, length, slice_index}
-use Rattle.sota_period.specs.Rows.{AreRows, asked_need, row_of}
+use Rattle.sota_period.specs.Rows.{AreRows, asked_need, timed_row}
 use Rattle.sota_period.specs.Broad.{AreSummers}
 use Rattle.sota_period.proofs.blocks.fill_block.Given as goal
 
@@ -10,5 +10,5 @@ invariant-loop-node g l = record {
   grains : length l.grains ≡ length l.fn.grains;
   rows : AreRows l.ask l.from l.rows;
   summers : AreSummers g.Z.Summer.state l.rows l.network l.from l.workspace l.broad;
-  done : (k : ℕ) → k < l.node-index → min (l.from + length l.fn.bests) (asked_need l.ask (slice_index l.ask.visited.now k)) ≤ length (row_of l.rows (slice_index l.ask.visited.now k));
+  done : (k : ℕ) → k < l.node-index → min (l.from + length l.fn.bests) (asked_need l.ask (slice_index l.ask.visited.now k)) ≤ length (timed_row l.rows (slice_index l.ask.visited.now k));
 }

@@ -3,7 +3,7 @@ use Rattle.std.proofs.lemmas.List.{length-take-le, length-append, length-drop}
 use Rattle.sota_network.specs.Network.{Net, IsArc}
 use Rattle.sota_period.specs.declared.ask.Ask.{Ask}
 use Rattle.sota_period.specs.Rows.{AreRows, asked_net}
-use Rattle.sota_period.specs.Broad.{SummerList, AreSummers, state_of, first_state}
+use Rattle.sota_period.specs.Broad.{SummerList, AreSummers, summer_state, first_summer_state}
 use Rattle.sota_period.proofs.Feeding.{start-summers, later-summers}
 use Rattle.sota_period.proofs.Filling.{valid-held, nodes-held}
 use Rattle.sota_period.proofs.blocks.fill_period.Given as given
@@ -24,7 +24,7 @@ loop-at-init g c =
     let ask : Ask = c.args.ask.now in
     let net : Net = c.args.network.now in
     let here : (asked_net ask).at c.args.from ≡ net = c.requires.holds c.args.from (omega arith) c.requires.some in
-    let made : map (state_of g.Z.Summer.state) c.in_ok-summers.summers.items ≡ map (first_state ask.needs.now c.args.from) net.arcs = c.in_ok-summers.ensures.states in
+    let made : map (summer_state g.Z.Summer.state) c.in_ok-summers.summers.items ≡ map (first_summer_state ask.needs.now c.args.from) net.arcs = c.in_ok-summers.ensures.states in
     record {
       low = omega arith;
       high = omega (arith, c.requires.some);

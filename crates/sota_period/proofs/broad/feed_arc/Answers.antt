@@ -3,8 +3,8 @@ use Rattle.std.proofs.Math.ListN.{set}
 use Rattle.std.proofs.lemmas.List.{set-get_or}
 use Rattle.std.specs.Box.{with_value}
 use Rattle.sota_online.specs.Summer.{SummerState}
-use Rattle.sota_period.specs.Rows.{row_of}
-use Rattle.sota_period.specs.Broad.{AllFed, AreSame, SummerList, state_at, IsFedArc}
+use Rattle.sota_period.specs.Rows.{timed_row}
+use Rattle.sota_period.specs.Broad.{AllFedRows, AreSame, SummerList, state_at, IsFedArc}
 use Rattle.sota_period.proofs.Feeding.{IsFedOn, IsFedThere, fed-there, state-read, same-none}
 use Rattle.sota_period.proofs.broad.feed_arc.Given as given
 use Rattle.sota_period.proofs.broad.feed_arc.Goals as goal
@@ -31,7 +31,7 @@ there g c one is =
       count = c.feed_row.ensures.count;
       same = c.feed_row.ensures.same;
     } in
-    let on : IsFedOn (λ a. slice_index (row_of c.args.rows.now c.numbered.result.now.head) a) known (g.Z.Summer.state c.in-Some.summer.value) (g.Z.Summer.state c.feed_row.new.summer) =
+    let on : IsFedOn (λ a. slice_index (timed_row c.args.rows.now c.numbered.result.now.head) a) known (g.Z.Summer.state c.in-Some.summer.value) (g.Z.Summer.state c.feed_row.new.summer) =
     subst (λ (xs : List ℕ). IsFedOn (λ a. slice_index xs a) known (g.Z.Summer.state c.in-Some.summer.value) (g.Z.Summer.state c.feed_row.new.summer)) c.row_of-row.ensures
     (subst (λ (s : SummerState). IsFedOn (λ a. slice_index c.row_of-row.result.now a) known s (g.Z.Summer.state c.feed_row.new.summer)) one lent) in
     fed-there g.Z.Summer.state c.args.rows.now c.args.network.now c.args.broad.now c.args.number c.get.result c.in-Some.summer (with_value c.in-Some.summer c.feed_row.new.summer) c.numbered.result.now c.known_of-known.result
@@ -69,4 +69,4 @@ returns-in_default-clause-same g c =
 
 pub returns-in_default-clause-fed : goal.returns-in_default-clause-fed
 returns-in_default-clause-fed g c =
-    subst (λ (xs : SummerList g.row.Z.Denot). AllFed c.args.rows.now c.args.network.now (state_at g.Z.Summer.state xs)) (sym (set-get_or c.args.broad.now (c.get.result - 1) c.index-broad-get.result)) c.requires.fed
+    subst (λ (xs : SummerList g.row.Z.Denot). AllFedRows c.args.rows.now c.args.network.now (state_at g.Z.Summer.state xs)) (sym (set-get_or c.args.broad.now (c.get.result - 1) c.index-broad-get.result)) c.requires.fed

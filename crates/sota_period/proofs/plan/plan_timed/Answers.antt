@@ -5,7 +5,7 @@ use Rattle.sota_sums.specs.declared.bound.Bound.{Bound}
 use Rattle.sota_sums.specs.declared.bound.Bound.TheVariants.{Lower, Upper}
 use Rattle.sota_period.specs.Periods.{TimedNet, first_net, timed_net}
 use Rattle.sota_period.specs.Rows.{IsAsk}
-use Rattle.sota_period.specs.Needs.{AreNeeds, AreVisited}
+use Rattle.sota_period.specs.Needs.{AreTimedNeeds, AreVisited}
 use Rattle.sota_period.proofs.Filling.{needs-fit}
 use Rattle.sota_period.specs.Grid.{tlo, thi, tchoice}
 use Rattle.sota_period.specs.Trees.{TimedEncloses}
@@ -46,8 +46,8 @@ asked : (g : given.Over) (c : After-deref-3 g) (bound : Bound)
     → IsAsk (record { timed = c.args.timed; dest = c.args.dest; budget = c.args.budget; deadline = c.args.deadline; bound = bound; needs = c.deref-2.result; visited = c.deref-3.result })
 asked g c bound =
     let P : List (ℕ × Net) = c.args.timed.now in
-    let needs : AreNeeds P c.args.dest (c.args.budget + 1) c.deref-2.result.now =
-    subst (λ (xs : List ℕ). AreNeeds P c.args.dest (c.args.budget + 1) xs) (sym c.deref-2.ensures.value) c.in_ok-needs.ensures.needs in
+    let needs : AreTimedNeeds P c.args.dest (c.args.budget + 1) c.deref-2.result.now =
+    subst (λ (xs : List ℕ). AreTimedNeeds P c.args.dest (c.args.budget + 1) xs) (sym c.deref-2.ensures.value) c.in_ok-needs.ensures.needs in
     record {
       periods = c.find_timed_fault.ensures.valid;
       dest = c.in_default.ensures.dest;
@@ -68,5 +68,5 @@ plan_bound-requires-clause-ask g c = asked g (goal.at.plan_bound-requires-clause
 pub find_visited-requires : goal.find_visited-requires
 find_visited-requires g c =
     let P : List (ℕ × Net) = c.args.timed.now in
-    let needs : AreNeeds P c.args.dest (c.args.budget + 1) c.in_ok-needs.needs.items = c.in_ok-needs.ensures.needs in
+    let needs : AreTimedNeeds P c.args.dest (c.args.budget + 1) c.in_ok-needs.needs.items = c.in_ok-needs.ensures.needs in
     omega (arith, ap length c.deref.ensures.value, needs.count, c.in_default.ensures.cells)
