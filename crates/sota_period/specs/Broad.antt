@@ -1,5 +1,5 @@
 -- The summers of broad arcs, and what they were fed.
-use Rattle.std.specs.Prelude.{ℕ, ◌≡◌, ◌+◌, ◌-◌, ◌<◌, ◌≤◌, ◌&&◌, nat_lt, Bool, false, List}
+use Rattle.std.specs.Prelude.{ℕ, ◌≡◌, ◌+◌, ◌-◌, ◌≤◌, ◌&&◌, nat_lt, Bool, false, List}
 use Rattle.std.specs.Prelude.{length, slice_index_or, Option, None, Some, Box, if◌then◌else◌}
 use Rattle.std.specs.declared.alloc.Global.{Global}
 use Rattle.sota_bank.specs.Rows.{Row}
