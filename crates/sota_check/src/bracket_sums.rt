@@ -1,22 +1,36 @@
 // What an arc is worth by either side of a bracket table.
-ghost use Rattle.std.specs.Prelude.{◌≡◌, ◌*◌, ◌-◌, ◌^◌, ◌<◌, ◌≤◌};
-ghost use Rattle.std.specs.List.{sum_by};
+ghost use Rattle.std.specs.Prelude.{◌≡◌, ◌^◌, ◌<◌, ◌≤◌};
 ghost use Rattle.sota_units.specs.Rounding.{ONE, SCALE_LIMIT};
 ghost use Rattle.sota_hist.specs.Time.{total};
 ghost use Rattle.sota_network.specs.Grid.{plain_sum};
 ghost use Rattle.sota_check.specs.Bracketed.{row_upper};
 ghost use Rattle.sota_check.specs.Sides.{side_of, row_side};
 
-use crate::sums::whole_sum;
+use crate::sums::{Values, values_sum, whole_sum};
 use sota_network::Arc;
 use sota_polfile::{BracketRow, BracketTable};
-use sota_units::{Grain, Mass, Tick};
+use sota_units::{Grain, Tick};
 
 /// One of the two values of an entry.
 #[derive(Clone, Copy)]
 pub(crate) enum Side {
     Lower,
     Upper,
+}
+
+/// A row, and the one of its two values that is summed.
+#[derive(Clone, Copy)]
+struct RowSide<'a> {
+    row: &'a BracketRow,
+    side: Side,
+}
+
+impl Values for RowSide<'_> {
+    ghost value = { λ of. row_side of.side of.row.now };
+
+    fn value_at(&self, budget: u32) -> u64 {
+        side_in(self.row, self.side, budget)
+    }
 }
 
 /// The plain sum of an arc at a budget, over the values of one side.
@@ -31,21 +45,8 @@ pub(crate) fn side_sum(table: &BracketTable, side: Side, arc: &Arc, budget: u32)
     if head == table.head().dest {
         return whole_sum(pairs);
     }
-    row_side_sum(&table.rows()[head as usize - 1], side, pairs, budget)
-}
-
-/// The worth of pairs whose head has this row.
-fn row_side_sum(row: &BracketRow, side: Side, pairs: &[(Tick, Mass)], budget: u32) -> u128
-    requires { total pairs.now ≤ SCALE_LIMIT }
-    ensures value { result ≡ sum_by (λ p. p.1 * row_side side row.now (budget - p.0)) pairs.now }
-    ensures within { result < 2 ^ 94 }
-{
-    let mut sum = 0;
-    for (tick, mass) in pairs {
-        let left = budget.saturating_sub(tick.get());
-        sum += u128::from(mass.get()) * u128::from(side_in(row, side, left));
-    }
-    sum
+    let row = &table.rows()[head as usize - 1];
+    values_sum(&RowSide { row, side }, pairs, budget)
 }
 
 /// The value of a row at a budget.

@@ -1,5 +1,5 @@
 // What an arc is worth by the values of a policy.
-ghost use Rattle.std.specs.Prelude.{◌≡◌, ◌*◌, ◌-◌, ◌^◌, ◌<◌, ◌≤◌};
+ghost use Rattle.std.specs.Prelude.{ℕ, ◌≡◌, ◌*◌, ◌-◌, ◌^◌, ◌<◌, ◌≤◌};
 ghost use Rattle.std.specs.List.{sum_by};
 ghost use Rattle.sota_units.specs.Rounding.{ONE, SCALE_LIMIT};
 ghost use Rattle.sota_hist.specs.Time.{total};
@@ -10,6 +10,31 @@ use crate::rows::row_near;
 use sota_network::Arc;
 use sota_polfile::{PolicyRow, PolicyTable};
 use sota_units::{Grain, Mass, Scale, Tick};
+
+/// What has a value at each budget, in units of 10^-18.
+pub(crate) trait Values {
+    /// The value at a budget.
+    ghost value: { Self → ℕ → ℕ };
+
+    /// The value at a budget.
+    fn value_at(&self, budget: u32) -> u64
+        ensures { result ≡ value self.now budget };
+}
+
+impl Values for PolicyRow {
+    ghost value = { claimed_value };
+
+    /// It is 0 where the row has no entry.
+    fn value_at(&self, budget: u32) -> u64 {
+        if budget < self.first {
+            return 0;
+        }
+        match self.entries.as_slice().get((budget - self.first) as usize) {
+            Some(entry) => entry.value,
+            None => 0,
+        }
+    }
+}
 
 /// The plain sum of an arc at a budget, over the values of a policy.
 pub(crate) fn arc_sum(table: &PolicyTable, arc: &Arc, budget: u32, near: &mut usize) -> u128
@@ -23,7 +48,7 @@ pub(crate) fn arc_sum(table: &PolicyTable, arc: &Arc, budget: u32, near: &mut us
         return whole_sum(pairs);
     }
     match row_near(table, head, near) {
-        Some(row) => row_sum(row, pairs, budget),
+        Some(row) => values_sum(row, pairs, budget),
         None => 0,
     }
 }
@@ -41,31 +66,18 @@ pub(crate) fn whole_sum(pairs: &[(Tick, Mass)]) -> u128
     sum
 }
 
-/// The worth of pairs whose head has this row.
-fn row_sum(row: &PolicyRow, pairs: &[(Tick, Mass)], budget: u32) -> u128
+/// The worth of pairs whose head has these values.
+pub(crate) fn values_sum<V: Values>(values: &V, pairs: &[(Tick, Mass)], budget: u32) -> u128
     requires { total pairs.now ≤ SCALE_LIMIT }
-    ensures value { result ≡ sum_by (λ p. p.1 * claimed_value row.now (budget - p.0)) pairs.now }
+    ensures value { result ≡ sum_by (λ p. p.1 * V.value values.now (budget - p.0)) pairs.now }
     ensures within { result < 2 ^ 94 }
 {
     let mut sum = 0;
     for (tick, mass) in pairs {
         let left = budget.saturating_sub(tick.get());
-        sum += u128::from(mass.get()) * u128::from(value_in(row, left));
+        sum += u128::from(mass.get()) * u128::from(values.value_at(left));
     }
     sum
-}
-
-/// The value of a row at a budget: 0 where it has no entry.
-fn value_in(row: &PolicyRow, budget: u32) -> u64
-    ensures { result ≡ claimed_value row.now budget }
-{
-    if budget < row.first {
-        return 0;
-    }
-    match row.entries.as_slice().get((budget - row.first) as usize) {
-        Some(entry) => entry.value,
-        None => 0,
-    }
 }
 
 /// What an arc has to be worth for a value.

@@ -14,8 +14,8 @@ use Rattle.sota_check.proofs.bracket_sums.side_sum.Goals as goal
 pub whole_sum-requires : goal.whole_sum-requires
 whole_sum-requires c = rw c.within-pairs.ensures (omega (arith, within-few c.args.budget c.args.arc.now.time, c.requires.total))
 
-pub row_side_sum-requires : goal.row_side_sum-requires
-row_side_sum-requires c = rw c.within-pairs.ensures (omega (arith, within-few c.args.budget c.args.arc.now.time, c.requires.total))
+pub values_sum-requires : goal.values_sum-requires
+values_sum-requires c = rw c.within-pairs.ensures (omega (arith, within-few c.args.budget c.args.arc.now.time, c.requires.total))
 
 pub returns-then-head-clause-value : goal.returns-then-head-clause-value
 returns-then-head-clause-value c =
@@ -33,6 +33,6 @@ returns-clause-value c =
     let got = slice_get_read c.rows.result.now (length c.rows.result.now) (c.get-head.result - 1) row refl (omega (arith, long, c.requires.head.0, c.requires.head.1, c.get-head.ensures)) c.index-rows-head.is in
     let there = rw (c.rows.ensures.value, c.get-head.ensures) at got in
     let is : bracket_row_of table c.args.arc.now.head ≡ Some row = row-read table c.args.arc.now.head row c.requires.head.0 there in
-    c.row_side_sum.ensures.value
+    c.values_sum.ensures.value
     ∙ ap (sum_by (λ (p : ℕ × ℕ). p.1 * row_side c.args.side row (c.args.budget - p.0))) c.within-pairs.ensures
     ∙ sym (side-row table c.args.arc.now.head c.args.budget c.args.arc.now.time c.args.side off row is)
