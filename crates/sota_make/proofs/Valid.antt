@@ -73,18 +73,11 @@ pub record Sized (n a s : ℕ) : Type 0 where
   pub span : (1 ≤ s) × (s ≤ 1000)
 
 pub sized : (n a s : ℕ) → is_size n a s ≡ true → Sized n a s
-sized n a s e =
-    let g = and_parts _ _ e in
-    let f = and_parts _ _ g.0 in
-    let h = and_parts _ _ f.0 in
-    let i = and_parts _ _ h.0 in
-    let j = and_parts _ _ i.0 in
-    let k = and_parts _ _ j.0 in
-    record {
-      nodes = (leb-true _ _ k.0, leb-true _ _ k.1);
-      arcs = (leb-true _ _ j.1, leb-true _ _ i.1);
-      span = (leb-true _ _ h.1, leb-true _ _ f.1);
-    }
+sized n a s e = record {
+  nodes = grind (arith, leb-true, and_parts);
+  arcs = grind (arith, leb-true, and_parts);
+  span = grind (arith, leb-true, and_parts);
+}
 
 pub made-valid : DrawsBelow → (seed nodes arcs span : ℕ) → is_size nodes arcs span ≡ true → IsNet (made seed nodes arcs span)
 made-valid below seed nodes arcs span sizes =
