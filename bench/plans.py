@@ -7,9 +7,10 @@ answer the same asks, and prints a table.
 It is a measurement: nothing fails by time, but an answer that differs from that of another program
 ends it with status 1. Standard library alone. Each case is a network that is made here from a fixed
 seed, or the example city, and an ask. The reading time is the processor time of the same ask with
-budget 0, which plans next to nothing; the planning time is what the ask takes beyond that. Of
-several rounds the least counts. Another program is run as `PATH KIND GRAPH HISTS O D T`; it prints
-the same line of answer, and `plan_s SECONDS` on standard error.
+budget 0, which plans next to nothing; the planning time, with the search for the region, is what
+the ask takes beyond that. Of several rounds the least counts. Another program is run as
+`PATH KIND GRAPH HISTS O D T`; it prints the same line of answer, and on standard error
+`region_s SECONDS` and `plan_s SECONDS`: what these two take beyond budget 0 is its planning.
 
     made SEED NODES ARCS SPAN    a ring and random arcs, each over SPAN ticks (the command `make`)
     roads SEED SIDE WIDTH        a square grid, one road in twenty random over WIDTH ticks
@@ -170,24 +171,27 @@ def run(words):
 
 
 def plan_seconds(notes):
+    """What another program says that its region and its plan took."""
     lines = [line.split() for line in notes.splitlines()]
-    return next((float(line[1]) for line in lines if line[:1] == ["plan_s"]), 0.0)
+    return sum(float(line[1]) for line in lines if line[:1] in (["region_s"], ["plan_s"]))
 
 
 def measure(given, files, ask):
     """The seconds of reading and of planning, the peak and the answer; then those of the others."""
     reading, total, peak, answer = 1e9, 1e9, 0.0, ""
+    nothing = [ask[0], ask[1], "0"]
     for _ in range(given.rounds):
-        reading = min(reading, run([given.sota, "ask", *files, ask[0], ask[1], "0"])[0])
+        reading = min(reading, run([given.sota, "ask", *files, *nothing])[0])
         seconds, peak, answer, _ = run([given.sota, "ask", *files, *ask])
         total = min(total, seconds)
     others = []
     for _, path, kind in given.others:
-        plan, most, line = 1e9, 0.0, ""
+        least, plan, most, line = 1e9, 1e9, 0.0, ""
         for _ in range(given.rounds):
+            least = min(least, plan_seconds(run([path, kind, *files, *nothing])[3]))
             _, most, line, notes = run([path, kind, *files, *ask])
             plan = min(plan, plan_seconds(notes))
-        others.append((plan, most, line))
+        others.append((max(0.0, plan - least), most, line))
     return reading, max(0.0, total - reading), peak, answer, others
 
 
