@@ -78,5 +78,5 @@ with_front w i front = record {
 }
 
 -- all is known as far as it is needed
-abbrev pub IsMet : Net → OrderView → Type 0
-IsMet net w = (i : ℕ) → IsNode net i → need_at w i ≤ order_end w i
+abbrev pub AreNeedsMet : Net → OrderView → Type 0
+AreNeedsMet net w = (i : ℕ) → IsNode net i → need_at w i ≤ order_end w i

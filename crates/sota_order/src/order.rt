@@ -1,7 +1,8 @@
 // Extents of budgets, by the least known end.
 ghost use Rattle.std.specs.Prelude.{◌≡◌, ◌≤◌, ◌-◌, length, IfOk, IfSome, IfNone, slice_index};
 ghost use Rattle.sota_network.specs.Network.{IsNet};
-ghost use Rattle.sota_order.specs.Orders.{OrderView, CanBeMet, IsReach, IsNext, IsMet, bound_of};
+ghost use Rattle.sota_order.specs.Orders.{OrderView, CanBeMet, IsReach, IsNext, AreNeedsMet};
+ghost use Rattle.sota_order.specs.Orders.{bound_of};
 ghost use Rattle.sota_order.specs.Orders.{with_front};
 
 use sota_network::laws::{arcs_by_number, numbers_of_arcs};
@@ -121,7 +122,7 @@ impl Order {
         ensures front { IfSome result (λ extent.
             self.new ≡ with_front self.old extent.node extent.to) }
         ensures still { CanBeMet network.now self.new }
-        ensures met { IfNone result (IsMet network.now self.old) }
+        ensures met { IfNone result (AreNeedsMet network.now self.old) }
         ensures unchanged { IfNone result (self.new ≡ self.old) }
     {
         arcs_by_number();

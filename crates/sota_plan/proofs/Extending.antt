@@ -11,7 +11,7 @@ use Rattle.sota_network.specs.Laws.{ListLaws}
 use Rattle.sota_kept.specs.NodeTables.{NodeTable, IsNodeTable, AreReady, IsExtent, IsGrownAt, known_end}
 use Rattle.sota_kept.specs.TableLists.{AreTables, table_of}
 use Rattle.sota_kept.specs.Asks.{IsGrown, left_to_push}
-use Rattle.sota_order.specs.Orders.{OrderView, CanBeMet, IsReach, IsNext, IsMet, need_at, order_end, with_front}
+use Rattle.sota_order.specs.Orders.{OrderView, CanBeMet, IsReach, IsNext, AreNeedsMet, need_at, order_end, with_front}
 use Rattle.sota_order.specs.declared.order.Extent.{Extent}
 use Rattle.sota_tables.specs.Views.{TablesView, lists_of, SameNodes, table_at, room_of}
 use Rattle.sota_bounds.specs.declared.ask.AskRegion.{AskRegion}
@@ -205,14 +205,14 @@ module _ (laws : ListLaws) (net : Net) (dest : ℕ) (first now next : OrderView)
   }
 
 -- ---- the end
-pub going-met : (net : Net) (dest : ℕ) (first now : OrderView) (old tables : TablesView) (before pushed : ℕ) → Going net dest first now old tables before pushed → IsMet net now → (i : ℕ) → IsNode net i → need_at first i ≤ known_end (table_at tables i)
+pub going-met : (net : Net) (dest : ℕ) (first now : OrderView) (old tables : TablesView) (before pushed : ℕ) → Going net dest first now old tables before pushed → AreNeedsMet net now → (i : ℕ) → IsNode net i → need_at first i ≤ known_end (table_at tables i)
 going-met net dest first now old tables before pushed going met i node =
     let need : need_at now i ≡ need_at first i = ap (λ (xs : List ℕ). slice_index xs (i - 1)) going.needs in
     let end : order_end now i ≡ known_end (table_at tables i) = going.agrees.ends i node in
     let reached : need_at now i ≤ order_end now i = met i node in
     omega arith
 
-pub going-count : ListLaws → (net : Net) (dest : ℕ) (first now : OrderView) (old tables : TablesView) (before pushed : ℕ) → Going net dest first now old tables before pushed → IsMet net now → pushed ≡ before + 3 * left_of net.nodes first.needs (table_at old)
+pub going-count : ListLaws → (net : Net) (dest : ℕ) (first now : OrderView) (old tables : TablesView) (before pushed : ℕ) → Going net dest first now old tables before pushed → AreNeedsMet net now → pushed ≡ before + 3 * left_of net.nodes first.needs (table_at old)
 going-count laws net dest first now old tables before pushed going met =
     let none : left_of net.nodes first.needs (table_at tables) ≡ 0 =
     sum-none (λ i. slice_index first.needs (i - 1) - known_end (table_at tables i)) net.nodes
