@@ -1,7 +1,7 @@
 // Whether the numbers of an ask are in range.
 ghost use Rattle.std.specs.Prelude.{◌≡◌, None, Some, IfErr, OnOk};
 ghost use Rattle.sota_network.specs.Network.{IsNet};
-ghost use Rattle.sota_bounds.specs.Range.{is_node, range_fault};
+ghost use Rattle.sota_bounds.specs.Range.{range_fault};
 
 use sota_network::Network;
 use sota_units::{BUDGET_LIMIT, NodeId};
@@ -30,21 +30,14 @@ pub fn check_range(
         range_fault network.now origin dest budget ≡ Some fault) }
     ensures valid { IsNet network.now }
 {
-    if !is_node(network, origin) {
+    let nodes = network.nodes();
+    if !origin.is_within(nodes) {
         Err(RangeFault::NoOrigin)
-    } else if !is_node(network, dest) {
+    } else if !dest.is_within(nodes) {
         Err(RangeFault::NoDest)
     } else if budget > BUDGET_LIMIT {
         Err(RangeFault::Budget)
     } else {
         Ok(())
     }
-}
-
-/// Whether a node of the network has this number.
-fn is_node(network: &Network, node: NodeId) -> bool
-    ensures value { result ≡ is_node network.now node }
-    ensures valid { IsNet network.now }
-{
-    (1..=network.nodes()).contains(&node.get())
 }

@@ -3,7 +3,8 @@ use Rattle.std.proofs.Common.{◌≡◌, ℕ, ◌+◌, ◌<◌, ◌≤◌, List,
 use Rattle.std.specs.List.{enumerate_from}
 use Rattle.std.proofs.lemmas.List.Elements.{All-nil, All-push, All-head, All-tail}
 use Rattle.sota_units.specs.Limits.{NODE_LIMIT, ARC_LIMIT}
-use Rattle.sota_dimacs.specs.Graph.{is_node_number, problem_size_fault, arc_range_fault, or_line_fault, graph_with, graph_text, text_kinds, IsNodeNumber, IsGraph, is_content, graph_lines, IsTextOf}
+use Rattle.sota_units.specs.Ids.{is_node_number}
+use Rattle.sota_dimacs.specs.Graph.{problem_size_fault, arc_range_fault, or_line_fault, graph_with, graph_text, text_kinds, IsNodeNumber, IsGraph, is_content, graph_lines, IsTextOf}
 use Rattle.sota_dimacs.specs.declared.graph.RawArc.{RawArc}
 use Rattle.sota_dimacs.specs.declared.graph.RawGraph.{RawGraph}
 use Rattle.sota_dimacs.specs.declared.fault.GraphFault.{GraphFault}

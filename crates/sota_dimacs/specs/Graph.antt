@@ -1,9 +1,10 @@
 -- Graph texts: the lines are tried in order, and the first fault found is the text's.
-use Rattle.std.specs.Prelude.{◌≡◌, ℕ, ◌+◌, ◌≤◌, nat_lt, nat_le, Bool, true, false, ◌==◌, ◌&&◌}
+use Rattle.std.specs.Prelude.{◌≡◌, ℕ, ◌+◌, ◌≤◌, nat_lt, Bool, true, false, ◌==◌, ◌&&◌}
 use Rattle.std.specs.Prelude.{List, [], ◌∷◌, ◌++◌, All, length, map, filter}
 use Rattle.std.specs.Prelude.{Option, Some, None, Result, Ok, Err, if◌then◌else◌}
 use Rattle.std.specs.List.{filter_map}
 use Rattle.std.specs.Option.{option_or}
+use Rattle.sota_units.specs.Ids.{is_node_number}
 use Rattle.sota_units.specs.Limits.{NODE_LIMIT, ARC_LIMIT}
 use Rattle.sota_text.specs.Text.{text_lines}
 use Rattle.sota_dimacs.specs.Lines.{kind_of, line_problem, line_arc}
@@ -19,10 +20,6 @@ use Rattle.sota_dimacs.specs.declared.line.Problem.{Problem}
 use Rattle.sota_dimacs.specs.declared.line.LineKind.{LineKind}
 use Rattle.sota_dimacs.specs.declared.line.LineKind.TheVariants.{Skipped, ProblemLine, ArcLine}
 use Rattle.sota_dimacs.specs.declared.line.LineKind.TheVariants.{Unknown}
-
--- nodes are numbered from 1
-abbrev pub is_node_number : ℕ → ℕ → Bool
-is_node_number nodes node = nat_lt 0 node && nat_le node nodes
 
 -- ---- what several lines hold
 

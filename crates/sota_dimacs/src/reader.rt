@@ -7,14 +7,13 @@ ghost use Rattle.sota_units.specs.Memory.{Answers, IsFault};
 ghost use Rattle.sota_dimacs.specs.Words.{is_shortage};
 ghost use Rattle.sota_dimacs.specs.Lines.{line_problem, line_arc};
 ghost use Rattle.sota_dimacs.specs.Graph.{line_fault, problem_line_fault, arc_line_fault};
-ghost use Rattle.sota_dimacs.specs.Graph.{is_node_number};
 ghost use Rattle.sota_dimacs.specs.Graph.{graph_with, graph_text, IsGraph, IsTextOf};
 ghost use Rattle.sota_dimacs.specs.declared.graph.RawGraph.{RawGraph};
 
 use crate::line::{LineKind, Problem, read_line};
 use crate::{GraphFault, RawArc, RawGraph};
 use sota_text::Lines;
-use sota_units::{ARC_LIMIT, Items, NODE_LIMIT, NodeId};
+use sota_units::{ARC_LIMIT, Items, NODE_LIMIT};
 use std::alloc::Global;
 
 // The fewest bytes of an arc line, with what ends it.
@@ -125,7 +124,7 @@ impl Seen {
         let Some(arc) = arc else {
             return Err(GraphFault::BadLine(number));
         };
-        if !is_node(problem.nodes, arc.tail) || !is_node(problem.nodes, arc.head) {
+        if !arc.tail.is_within(problem.nodes) || !arc.head.is_within(problem.nodes) {
             return Err(GraphFault::NodeRange(number));
         }
         if self.arcs.len() >= problem.arcs as usize {
@@ -154,12 +153,4 @@ impl Seen {
             arcs: Items::new(arcs),
         })
     }
-}
-
-/// Nodes are numbered from 1.
-fn is_node(nodes: u32, node: NodeId) -> bool
-    ensures { result ≡ is_node_number nodes node }
-{
-    let node = node.get();
-    0 < node && node <= nodes
 }

@@ -1,9 +1,10 @@
 -- What planning with departure periods answers, and why it is refused.
-use Rattle.std.specs.Prelude.{ℕ, ◌+◌, ◌*◌, ◌&&◌, not, nat_le, nat_lt}
+use Rattle.std.specs.Prelude.{ℕ, ◌+◌, ◌*◌, not, nat_lt}
 use Rattle.std.specs.Prelude.{Bool, true, false}
 use Rattle.std.specs.Prelude.{List, Option, None, Some, Result, Ok, Err, codes}
 use Rattle.std.specs.Prelude.{if◌then◌else◌}
 use Rattle.std.specs.List.{sum_by}
+use Rattle.sota_units.specs.Ids.{is_node_number}
 use Rattle.sota_units.specs.Limits.{BUDGET_LIMIT}
 use Rattle.sota_network.specs.Network.{Net}
 use Rattle.sota_network.specs.Region.{broad_at}
@@ -31,10 +32,6 @@ abbrev pub timed_broad : List (ℕ × Net) → ℕ → ℕ
 timed_broad periods budget =
     sum_by (λ p. sum_by (broad_at budget (budget + 1)) p.1.arcs) periods
 
--- whether a node has this number
-abbrev pub has_node : ℕ → ℕ → Bool
-has_node nodes i = nat_le 1 i && nat_le i nodes
-
 -- too many timed cells, or else too many timed broad cells
 abbrev pub timed_cells_fault : List (ℕ × Net) → ℕ → Option TimedFault
 timed_cells_fault periods budget =
@@ -46,8 +43,8 @@ timed_cells_fault periods budget =
 -- the first that stands: no origin, no destination, a budget or a count above its limit
 abbrev pub timed_fault : List (ℕ × Net) → ℕ → ℕ → ℕ → Option TimedFault
 timed_fault periods origin dest budget =
-    if not (has_node (first_net periods).nodes origin) then Some NoOrigin else
-    if not (has_node (first_net periods).nodes dest) then Some NoDest else
+    if not (is_node_number (first_net periods).nodes origin) then Some NoOrigin else
+    if not (is_node_number (first_net periods).nodes dest) then Some NoDest else
     if nat_lt BUDGET_LIMIT budget then Some Budget else timed_cells_fault periods budget
 
 -- the two values and the choice at the origin

@@ -6,13 +6,12 @@ ghost use Rattle.sota_network.specs.Network.{IsNode};
 ghost use Rattle.sota_network.specs.Region.{broad_at};
 ghost use Rattle.sota_period.specs.Periods.{ArePeriods, first_net, PERIOD_LIMIT};
 ghost use Rattle.sota_period.specs.Answers.{timed_fault, timed_broad, timed_cells};
-ghost use Rattle.sota_period.specs.Answers.{timed_cells_fault};
-ghost use Rattle.sota_period.specs.Answers.{TIMED_LIMIT, has_node};
+ghost use Rattle.sota_period.specs.Answers.{timed_cells_fault, TIMED_LIMIT};
 
 use crate::fault::TimedFault;
 use crate::timed::Timed;
 use sota_network::{Network, broad_at};
-use sota_units::BUDGET_LIMIT;
+use sota_units::{BUDGET_LIMIT, NodeId};
 
 /// The most timed cells that are planned for.
 const TIMED_LIMIT: u64 = 60_000_000;
@@ -23,8 +22,8 @@ const TIMED_BROAD_LIMIT: u64 = 40_000_000;
 /// The first fault of an ask.
 pub(crate) fn find_timed_fault(
     timed: &Timed,
-    origin: u32,
-    dest: u32,
+    origin: NodeId,
+    dest: NodeId,
     budget: u32,
 ) -> Option<TimedFault>
     ensures value { result ≡ timed_fault timed.now origin dest budget }
@@ -36,22 +35,15 @@ pub(crate) fn find_timed_fault(
     ensures valid { ArePeriods timed.now }
 {
     let nodes = timed.nodes();
-    if !has_node(nodes, origin) {
+    if !origin.is_within(nodes) {
         Some(TimedFault::NoOrigin)
-    } else if !has_node(nodes, dest) {
+    } else if !dest.is_within(nodes) {
         Some(TimedFault::NoDest)
     } else if budget > BUDGET_LIMIT {
         Some(TimedFault::Budget)
     } else {
         find_cells_fault(timed, nodes, budget)
     }
-}
-
-/// Whether a node has this number.
-fn has_node(nodes: u32, node: u32) -> bool
-    ensures { result ≡ has_node nodes node }
-{
-    1 <= node && node <= nodes
 }
 
 /// Too many timed cells, or else too many timed broad cells.

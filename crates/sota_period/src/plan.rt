@@ -73,10 +73,10 @@ pub fn plan_timed<Z: Summer, M: Ledger>(
 {
     timed_grid_encloses();
     one_period();
+    let (origin, dest) = (NodeId(origin), NodeId(dest));
     if let Some(fault) = find_timed_fault(timed, origin, dest, budget) {
         return Err(fault);
     }
-    let (origin, dest) = (NodeId(origin), NodeId(dest));
     let needs = find_needs(alloc, timed, origin, dest, budget)?;
     let visited = find_visited(alloc, &needs, dest)?;
     let ask = Ask {

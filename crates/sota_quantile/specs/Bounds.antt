@@ -3,8 +3,8 @@ use Rattle.std.specs.Prelude.{ℕ, ◌≡◌, ◌≤◌}
 use Rattle.sota_network.specs.Network.{Net}
 use Rattle.sota_network.specs.Grid.{lo, hi}
 use Rattle.sota_tables.specs.Views.{TablesView, IsKnownAt, known_lower, known_upper}
-use Rattle.sota_quantile.specs.declared.search.Bound.{Bound}
-use Rattle.sota_quantile.specs.declared.search.Bound.TheVariants.{Lower, Upper}
+use Rattle.sota_sums.specs.declared.bound.Bound.{Bound}
+use Rattle.sota_sums.specs.declared.bound.Bound.TheVariants.{Lower, Upper}
 
 -- a bound of node i at budget t by tables
 abbrev pub bound_in : Bound → TablesView → ℕ → ℕ → ℕ

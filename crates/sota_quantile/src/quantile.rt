@@ -12,10 +12,11 @@ ghost use Rattle.sota_quantile.specs.declared.need.NeedFault.TheVariants as need
 use crate::laws::needs_by_trees;
 use crate::need::{Need, NeedFault};
 use crate::planned::plan;
-use crate::search::{Bound, find_least};
+use crate::search::find_least;
 use sota_bounds::check_range;
 use sota_network::Network;
 use sota_network::laws::values_rise;
+use sota_sums::Bound;
 use sota_units::{Grain, NodeId, Steps};
 use std::alloc::Global;
 use std::sync::ledger::Ledger;

@@ -5,26 +5,18 @@ ghost use Rattle.sota_tables.specs.Views.{IsKnownAt};
 ghost use Rattle.sota_quantile.specs.Bounds.{bound_in};
 ghost use Rattle.sota_quantile.specs.Needs.{least_budget};
 
+use sota_sums::Bound;
 use sota_tables::Tables;
 use sota_units::{Grain, NodeId};
 
-/// One of the two bounds of an on-time probability.
-#[derive(Clone, Copy)]
-pub(crate) enum Bound {
-    Lower,
-    Upper,
-}
-
-impl Bound {
-    /// The bound of a node at a budget.
-    fn value(self, tables: &Tables, node: NodeId, budget: u32) -> Grain
-        requires { IsKnownAt tables.now node budget }
-        ensures { result ≡ bound_in self tables.now node budget }
-    {
-        match self {
-            Bound::Lower => tables.lower(node, budget),
-            Bound::Upper => tables.upper(node, budget),
-        }
+/// A bound of a node at a budget.
+fn value_of(bound: Bound, tables: &Tables, node: NodeId, budget: u32) -> Grain
+    requires { IsKnownAt tables.now node budget }
+    ensures { result ≡ bound_in bound tables.now node budget }
+{
+    match bound {
+        Bound::Lower => tables.lower(node, budget),
+        Bound::Upper => tables.upper(node, budget),
     }
 }
 
@@ -47,7 +39,7 @@ pub(crate) fn find_least(
     let mut to = most + 1;
     while from < to {
         let middle = from + (to - from) / 2;
-        if bound.value(tables, node, middle) < confidence {
+        if value_of(bound, tables, node, middle) < confidence {
             from = middle + 1;
         } else {
             to = middle;

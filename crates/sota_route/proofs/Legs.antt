@@ -4,10 +4,11 @@ use Rattle.std.proofs.lemmas.Bool.{eqb-true}
 use Rattle.std.proofs.lemmas.Option.{slice_get_within}
 use Rattle.std.proofs.lemmas.List.Elements.{All-cons}
 use Rattle.std.specs.List.{All}
+use Rattle.sota_units.specs.Ids.{is_node_number}
 use Rattle.sota_units.specs.Limits.{BUDGET_LIMIT}
 use Rattle.sota_network.specs.Network.{Net, arc_at}
 use Rattle.sota_network.specs.declared.network.Arc.{Arc}
-use Rattle.sota_route.specs.Faults.{ROUTE_LIMIT, is_node_of, can_leave, has_arrived, leg_fault, route_fault}
+use Rattle.sota_route.specs.Faults.{ROUTE_LIMIT, can_leave, has_arrived, leg_fault, route_fault}
 use Rattle.sota_route.specs.Routes.{start_of}
 use Rattle.sota_route.proofs.Along.{Leads}
 
@@ -73,7 +74,7 @@ module _ (net : Net) (dest : ℕ) where
       → leg_fault net dest None 1 route ≡ None
   legs-clear budget route h =
       passed (nat_lt ROUTE_LIMIT (length route)) _ _
-      (passed (nat_lt BUDGET_LIMIT budget) _ _ (passed (not (is_node_of net dest)) _ _ h))
+      (passed (nat_lt BUDGET_LIMIT budget) _ _ (passed (not (is_node_number net.nodes dest)) _ _ h))
 
   -- a route without a fault leads from its first tail to the destination
   pub route-leads : (o budget : ℕ) (route : List ℕ) → route_fault net dest budget route ≡ None

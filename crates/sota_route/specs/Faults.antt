@@ -1,6 +1,7 @@
 -- Why a route is refused.
-use Rattle.std.specs.Prelude.{ℕ, ◌+◌, ◌==◌, ◌&&◌, nat_le, nat_lt, Bool, true, false, not}
+use Rattle.std.specs.Prelude.{ℕ, ◌+◌, ◌==◌, nat_lt, Bool, true, false, not}
 use Rattle.std.specs.Prelude.{List, [], ◌∷◌, length, codes, Option, None, Some, if◌then◌else◌}
+use Rattle.sota_units.specs.Ids.{is_node_number}
 use Rattle.sota_units.specs.Limits.{BUDGET_LIMIT}
 use Rattle.sota_network.specs.Network.{Net, arc_at}
 use Rattle.sota_route.specs.declared.fault.RouteFault.{RouteFault}
@@ -11,10 +12,6 @@ use Rattle.sota_route.specs.declared.fault.RouteFault.TheVariants.{NoMemory}
 -- the most arcs of a route
 abbrev pub ROUTE_LIMIT : ℕ
 ROUTE_LIMIT = 1000
-
--- whether a node has this number
-abbrev pub is_node_of : Net → ℕ → Bool
-is_node_of net i = nat_le 1 i && nat_le i net.nodes
 
 -- whether an arc from node `tail` can be taken by who stands at a node, or anywhere yet
 abbrev pub can_leave : Option ℕ → ℕ → Bool
@@ -40,7 +37,7 @@ leg_fault net dest at place (e ∷ rest) = elim (arc_at net e) [
 -- the first fault of a route, in the order in which they are looked for
 abbrev pub route_fault : Net → ℕ → ℕ → List ℕ → Option RouteFault
 route_fault net dest budget route =
-    if not (is_node_of net dest) then Some NoDest else
+    if not (is_node_number net.nodes dest) then Some NoDest else
     if nat_lt BUDGET_LIMIT budget then Some Budget else
     if nat_lt ROUTE_LIMIT (length route) then Some (RouteArcs (length route)) else
     leg_fault net dest None 1 route

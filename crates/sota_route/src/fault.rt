@@ -3,7 +3,7 @@ ghost use Rattle.std.specs.Prelude.{◌≡◌, ◌≤◌, length, None, IfNone};
 ghost use Rattle.std.specs.List.{All};
 ghost use Rattle.sota_units.specs.Limits.{BUDGET_LIMIT};
 ghost use Rattle.sota_network.specs.Network.{IsNet};
-ghost use Rattle.sota_route.specs.Faults.{ROUTE_LIMIT, is_node_of, can_leave, has_arrived};
+ghost use Rattle.sota_route.specs.Faults.{ROUTE_LIMIT, can_leave, has_arrived};
 ghost use Rattle.sota_route.specs.Faults.{leg_fault};
 ghost use Rattle.sota_route.specs.Faults.{route_fault, route_word, route_number};
 
@@ -70,14 +70,6 @@ impl From<NoMemory> for RouteFault {
     }
 }
 
-/// Whether a node of the network has this number.
-fn has_node(network: &Network, node: NodeId) -> bool
-    ensures value { result ≡ is_node_of network.now node }
-    ensures valid { IsNet network.now }
-{
-    (1..=network.nodes()).contains(&node.get())
-}
-
 /// The first fault of a route.
 pub(crate) fn find_route_fault(
     network: &Network,
@@ -91,7 +83,7 @@ pub(crate) fn find_route_fault(
         (All (λ e. (1 ≤ e) × (e ≤ length network.now.arcs)) route.now) }
     ensures valid { IsNet network.now }
 {
-    if !has_node(network, dest) {
+    if !dest.is_within(network.nodes()) {
         Some(RouteFault::NoDest)
     } else if budget > BUDGET_LIMIT {
         Some(RouteFault::Budget)

@@ -5,7 +5,8 @@ use Rattle.std.proofs.lemmas.Bool.{cases_lt, lt-ltb, leb-true}
 use Rattle.sota_units.specs.Limits.{BUDGET_LIMIT}
 use Rattle.sota_network.specs.Network.{Net}
 use Rattle.sota_network.specs.Region.{table_cells, broad_cells}
-use Rattle.sota_bounds.specs.Range.{is_node, range_fault}
+use Rattle.sota_units.specs.Ids.{is_node_number}
+use Rattle.sota_bounds.specs.Range.{range_fault}
 use Rattle.sota_bounds.specs.Faults.{TABLE_LIMIT, cells_fault, region_fault}
 use Rattle.sota_bounds.specs.declared.range.RangeFault.{RangeFault}
 use Rattle.sota_bounds.specs.declared.range.RangeFault.TheVariants.{NoOrigin, NoDest, Budget}
@@ -47,7 +48,7 @@ module _ (net : Net) (ask : Ask) (accepted : ask_fault net ask ≡ None) where
   pub within-budget : ask.budget ≤ BUDGET_LIMIT
   within-budget =
       leb-true ask.budget BUDGET_LIMIT
-      (in-range (is_node net ask.origin) (is_node net ask.dest) (nat_le ask.budget BUDGET_LIMIT) both.0)
+      (in-range (is_node_number net.nodes ask.origin) (is_node_number net.nodes ask.dest) (nat_le ask.budget BUDGET_LIMIT) both.0)
 
   pub few-cells : table_cells net ask.origin ask.dest ask.budget ≤ TABLE_LIMIT
   few-cells =

@@ -1,5 +1,6 @@
 // Plain numbers with names of their own.
 ghost use Rattle.std.specs.Prelude.{ℕ, ◌≡◌};
+ghost use Rattle.sota_units.specs.Ids.{is_node_number};
 
 use std::marker::Model;
 
@@ -63,6 +64,13 @@ impl NodeId {
         ensures { result ≡ self }
     {
         self.0
+    }
+
+    /// Whether it is the number of one of so many nodes.
+    pub fn is_within(self, nodes: u32) -> bool
+        ensures { result ≡ is_node_number nodes self }
+    {
+        1 <= self.0 && self.0 <= nodes
     }
 }
 
