@@ -1,4 +1,5 @@
 pub mod Time
+pub mod Pairs
 pub mod Build
 pub mod Words
 pub mod Laws

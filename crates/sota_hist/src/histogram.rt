@@ -1,5 +1,4 @@
-// A histogram of one pair needs no allocation of its own, since most arcs of a large network have
-// one. A closed one needs none either.
+// The chances of the times that an arc takes: how they are made, and what is read of them.
 ghost use Rattle.std.specs.Prelude.{◌≡◌, ◌≤◌, ◌<◌, ◌^◌, ◌↔◌, [], ◌∷◌, length, false, None};
 ghost use Rattle.std.specs.Prelude.{IfErr, IfOk, IfSome, IsNone, OnOk};
 ghost use Rattle.std.specs.List.Sorted.{IsPermutation};
@@ -11,8 +10,8 @@ ghost use Rattle.sota_hist.specs.Build.{positive, time_of, exact_fault, at_most_
 
 use crate::HistFault;
 use crate::difference::first_difference_of;
+use crate::pairs::Pairs;
 use crate::sorted::{rising_pairs, total_of};
-use smallvec::SmallVec;
 use sota_units::{Mass, NoMemory, Scale, Tick};
 use std::alloc::Global;
 use std::marker::Model;
@@ -23,19 +22,20 @@ use std::mem;
 /// does, and the histogram is closed.
 #[derive(Drop)]
 pub struct Histogram {
-    pairs: SmallVec<(Tick, Mass), 1>,
+    pairs: Pairs,
 }
 
 impl Model for Histogram {
     ghost use Rattle.std.specs.Prelude.{List, ℕ, ◌≤◌};
     ghost use Rattle.sota_units.specs.Rounding.{SCALE_LIMIT};
     ghost use Rattle.sota_hist.specs.Time.{IsTime, total};
+    ghost use Rattle.sota_hist.specs.Pairs.{pairs_in};
 
     ghost Value = { List (ℕ × ℕ) };
 
-    ghost view = { λ a. a.pairs.items };
+    ghost view = { λ a. pairs_in a.pairs };
 
-    ghost invariant = { λ a. IsTime a.pairs.items × (total a.pairs.items ≤ SCALE_LIMIT) };
+    ghost invariant = { λ a. IsTime (pairs_in a.pairs) × (total (pairs_in a.pairs) ≤ SCALE_LIMIT) };
 }
 
 impl Histogram {
@@ -98,19 +98,15 @@ impl Histogram {
         requires { 1 ≤ tick }
         ensures { IfOk result (λ time. time ≡ (tick, scale) ∷ []) }
     {
-        let mut pairs = SmallVec::new(alloc);
-        match pairs.push((tick, Mass(scale.get()))) {
-            Ok(()) => Ok(Histogram { pairs }),
-            Err(_) => Err(NoMemory),
-        }
+        Histogram::from_rising(alloc, &[(tick, Mass(scale.get()))])
     }
 
     /// The histogram without a pair. It takes no memory.
-    pub fn closed(alloc: Global) -> Histogram
+    pub fn closed(_alloc: Global) -> Histogram
         ensures { result ≡ [] }
     {
         Histogram {
-            pairs: SmallVec::new(alloc),
+            pairs: Pairs::Closed,
         }
     }
 
@@ -121,10 +117,8 @@ impl Histogram {
         requires total { total pairs.now ≤ SCALE_LIMIT }
         ensures { IfOk result (λ time. time ≡ pairs.now) }
     {
-        match SmallVec::from_slice(alloc, pairs) {
-            Ok(pairs) => Ok(Histogram { pairs }),
-            Err(_) => Err(NoMemory),
-        }
+        let pairs = Pairs::from_slice(alloc, pairs)?;
+        Ok(Histogram { pairs })
     }
 
     /// An equal histogram.

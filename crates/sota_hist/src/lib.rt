@@ -5,6 +5,7 @@ mod difference;
 mod fault;
 mod histogram;
 pub mod laws;
+mod pairs;
 mod sorted;
 #[cfg(test)]
 mod tests;
