@@ -133,7 +133,7 @@ impl<D: Desk, O: Sink, M: Ledger, P: Ledger> Player<'_, '_, '_, '_, '_, D, O, M,
         ensures sink { self.new.out ≡ self.old.out }
         ensures pushes { self.new.pushes ≡ self.old.pushes }
     {
-        self.session.edit(arc, Histogram::closed(self.alloc))?;
+        self.session.edit(arc, Histogram::closed())?;
         Ok(Reply::Closed(arc))
     }
 

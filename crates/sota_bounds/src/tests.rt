@@ -22,7 +22,7 @@ fn barred_triangle(alloc: Global) -> Result<Network, NoMemory>
     arcs.push(Arc {
         tail: NodeId(1),
         head: NodeId(3),
-        time: Histogram::closed(alloc),
+        time: Histogram::closed(),
     })?;
     Network::build(alloc, 4, Scale::ONE, arcs)
 }

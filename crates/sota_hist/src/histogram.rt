@@ -102,7 +102,7 @@ impl Histogram {
     }
 
     /// The histogram without a pair. It takes no memory.
-    pub fn closed(_alloc: Global) -> Histogram
+    pub fn closed() -> Histogram
         ensures { result ≡ [] }
     {
         Histogram {

@@ -84,7 +84,7 @@ fn made(rt: HostRuntime) -> Result<(), Fail> {
         .ok()
         .ok_or("certain")?;
     let copy = rising.copy(rt.alloc()).ok().ok_or("a copy")?;
-    let closed = Histogram::closed(rt.alloc());
+    let closed = Histogram::closed();
     assert_eq!(rt; ends(&rising), Some((Tick(3), Tick(5))));
     assert_eq!(rt; ends(&closed), None);
     assert_eq!(rt; closed.total(), 0);

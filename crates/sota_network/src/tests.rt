@@ -79,7 +79,7 @@ fn loses_mass(rt: HostRuntime) -> Result<(), Fail> {
     assert_eq!(rt; grid.lower(NodeId(1), 9).get(), 750_000_000_000_000_000);
     assert_eq!(rt; grid.upper(NodeId(1), 9).get(), 750_000_000_000_000_000);
     let old = network
-        .replace(ArcId(1), Histogram::closed(rt.alloc()))
+        .replace(ArcId(1), Histogram::closed())
         .ok()
         .ok_or("an arc")?;
     assert!(rt; old.pairs() == [(Tick(5), Mass(3))].as_slice());

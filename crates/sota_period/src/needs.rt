@@ -63,7 +63,7 @@ fn quickest_arc(alloc: Global, timed: &Timed, number: ArcId) -> Result<Arc, NoMe
         None => Ok(Arc {
             tail: arc.tail,
             head: arc.head,
-            time: Histogram::closed(alloc),
+            time: Histogram::closed(),
         }),
     }
 }

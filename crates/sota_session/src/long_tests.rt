@@ -75,7 +75,7 @@ fn take(rt: &impl Abort, alloc: Global, session: &mut Session, step: u32) -> Res
         return same_answer(rt, alloc, session, origin, dest, step * 13 % 50);
     }
     let time = if step % 16 == 1 {
-        Histogram::closed(alloc)
+        Histogram::closed()
     } else {
         some_time(alloc, session.network().scale(), step)?
     };

@@ -133,7 +133,7 @@ fn take(rt: &impl Abort, alloc: Global, session: &mut Session, step: Step) -> Re
             assert_eq!(rt; session.edit(ArcId(arc), time), Ok(()));
         }
         Step::Close(arc, fault) => {
-            let done = session.edit(ArcId(arc), Histogram::closed(alloc));
+            let done = session.edit(ArcId(arc), Histogram::closed());
             assert_eq!(rt; done.err(), fault);
         }
     }
