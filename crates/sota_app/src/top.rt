@@ -8,8 +8,7 @@ ghost use Rattle.sota_polfile.specs.Bracket.{Bracket};
 ghost use Rattle.sota_polfile.specs.Table.{Table};
 ghost use Rattle.sota_app.specs.Outputs.{Ends, LineEnds};
 ghost use Rattle.sota_app.specs.Words.{request_of};
-ghost use Rattle.sota_app.specs.Inputs.{NoInputWritten, IsShortJob, job_of};
-ghost use Rattle.sota_app.specs.Inputs.{IsShortTask, task_work};
+ghost use Rattle.sota_app.specs.Inputs.{NoInputWritten, IsShortTask, task_work};
 ghost use Rattle.sota_app.specs.TimedMeaning.{IsTimed, TimedMeant};
 ghost use Rattle.sota_app.specs.declared.words.TimedAsk.{TimedAsk};
 ghost use Rattle.sota_app.specs.Inputs.{IsWorked, IsIdle, JobHolds};
@@ -72,38 +71,6 @@ fn refuse_input<O: Sink>(alloc: Global, end: NoInput, out: &mut O) -> Result<Sta
     }
 }
 
-/// Does what is to be done on a network. The status is the one of what was written.
-fn do_job<D: Desk, O: Sink, P: Ledger>(
-    alloc: Global,
-    network: Network,
-    job: Job,
-    desk: &mut D,
-    out: &mut O,
-    pushes: &mut Steps<P>,
-) -> Result<Status, Stop>
-    requires { IsShortJob job }
-    ensures made { Ends result (job_outcome network (job_of job)).outputs
-        (D.state desk.old) (D.state desk.new) (O.state out.old) (O.state out.new) }
-    ensures status { IfOk result (λ status.
-        status ≡ (job_outcome network (job_of job)).status) }
-    ensures holds { IfOk result (λ _. JobHolds network (job_of job)) }
-    ensures count { OnOk result (pushes.new ≡ pushes.old + job_work network (job_of job)) }
-{
-    match job {
-        Job::Play(script) => {
-            let blank = Blank::new(1);
-            play_lines::<D, O, Brand, P>(alloc, network, &script, desk, out, blank, pushes)
-        }
-        Job::Judge(table) => check_policy(alloc, &network, &table, out),
-        Job::JudgeBracket(table) => judge_bracket(alloc, &network, &table, out),
-        Job::Replay(table, trips) => replay_policy(alloc, &network, &table, trips, out),
-        Job::Show(ask) => {
-            let blank = Blank::new(1);
-            show_plan::<O, Brand, P>(alloc, network, ask, out, blank, pushes)
-        }
-    }
-}
-
 /// Does what is to be done. The status is the one of what was written.
 fn do_task<D: Desk, O: Sink, P: Ledger>(
     alloc: Global,
@@ -123,7 +90,19 @@ fn do_task<D: Desk, O: Sink, P: Ledger>(
         + job_work (task_work task).net (task_work task).job) }
 {
     match task {
-        Task::OnNetwork(network, job) => do_job(alloc, network, job, desk, out, pushes),
+        Task::OnNetwork(network, job) => match job {
+            Job::Play(script) => {
+                let blank = Blank::new(1);
+                play_lines::<D, O, Brand, P>(alloc, network, &script, desk, out, blank, pushes)
+            }
+            Job::Judge(table) => check_policy(alloc, &network, &table, out),
+            Job::JudgeBracket(table) => judge_bracket(alloc, &network, &table, out),
+            Job::Replay(table, trips) => replay_policy(alloc, &network, &table, trips, out),
+            Job::Show(ask) => {
+                let blank = Blank::new(1);
+                show_plan::<O, Brand, P>(alloc, network, ask, out, blank, pushes)
+            }
+        },
         Task::OverPeriods(periods, asked) => {
             let blank = Blank::new(1);
             answer_timed::<O, Brand>(alloc, &periods, &asked, out, blank)
