@@ -8,7 +8,7 @@ use Rattle.sota_script.specs.declared.command.Command.TheVariants as commands
 use Rattle.sota_session.specs.Asks.{ask_fault}
 use Rattle.sota_session.specs.declared.ask.Ask.{Ask}
 use Rattle.sota_session.specs.declared.ask.Answer.{Answer}
-use Rattle.sota_session.specs.declared.ask.AskFault.{AskFault}
+use Rattle.sota_bounds.specs.declared.fault.AskFault.{AskFault}
 use Rattle.sota_app.specs.Script.{ScriptLine, session_ask, step, parsed_step, result_step}
 use Rattle.sota_app.specs.Script.{unless_refused, effect_of, command_refusal, replies_to}
 use Rattle.sota_app.specs.Script.{network_after}

@@ -11,7 +11,7 @@ use Rattle.sota_script.specs.declared.command.Ask3.{Ask3}
 use Rattle.sota_script.specs.declared.command.Command.{Command}
 use Rattle.sota_script.specs.declared.command.Command.TheVariants as commands
 use Rattle.sota_session.specs.Asks.{ask_fault, answer_of}
-use Rattle.sota_session.specs.declared.ask.AskFault.{AskFault}
+use Rattle.sota_bounds.specs.declared.fault.AskFault.{AskFault}
 use Rattle.sota_app.specs.Replies.{spell, replies_text}
 use Rattle.sota_app.specs.Script.{ScriptLine, Effect, ask_on, session_ask, arc_refusal}
 use Rattle.sota_app.specs.Script.{command_refusal}

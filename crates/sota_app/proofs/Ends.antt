@@ -15,7 +15,7 @@ use Rattle.sota_app.specs.Script.{session_ask, replies_to}
 use Rattle.sota_app.specs.Shown.{plan_result}
 use Rattle.sota_app.specs.declared.showing.Plan.{Plan}
 use Rattle.sota_session.specs.declared.ask.Ask.{Ask}
-use Rattle.sota_session.specs.declared.ask.AskFault.{AskFault}
+use Rattle.sota_bounds.specs.declared.fault.AskFault.{AskFault}
 use Rattle.sota_app.specs.InputFaults.{fault_line}
 use Rattle.sota_app.specs.Outcome.{Outcome, outcome_of, Job, play, judge, judge_bracket, replay, show}
 use Rattle.sota_app.specs.Outcome.{timed, Work, work_of, work_outcome}

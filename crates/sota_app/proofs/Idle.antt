@@ -2,7 +2,7 @@
 use Rattle.std.proofs.Common.{◌≡◌, Bool, true, false, Option, None, Some, Result, Ok, Err, IfOk, subst}
 use Rattle.sota_network.specs.Network.{Net}
 use Rattle.sota_session.specs.declared.ask.Ask.{Ask}
-use Rattle.sota_session.specs.declared.ask.AskFault.{AskFault}
+use Rattle.sota_bounds.specs.declared.fault.AskFault.{AskFault}
 use Rattle.sota_app.specs.Replies.{lines_status, some_refused}
 use Rattle.sota_app.specs.Script.{session_ask, replies_to}
 use Rattle.sota_app.specs.Verdicts.{verdict_status}

@@ -11,7 +11,7 @@ use Rattle.sota_check.specs.Certified.{value}
 use Rattle.sota_session.specs.Asks.{ask_fault, answer_of}
 use Rattle.sota_session.specs.Plans.{plan_table}
 use Rattle.sota_session.specs.declared.ask.Ask.{Ask}
-use Rattle.sota_session.specs.declared.ask.AskFault.{AskFault}
+use Rattle.sota_bounds.specs.declared.fault.AskFault.{AskFault}
 use Rattle.sota_app.specs.Outputs.{only_line, Ends, LineEnds}
 use Rattle.sota_app.specs.Replies.{answer_line, refused_line}
 use Rattle.sota_app.specs.Verdicts.{named, accepted_line, verdict_status}

@@ -3,9 +3,8 @@ use Rattle.std.proofs.Common.{◌≡◌, true, refl}
 use Rattle.std.specs.Str.{is_utf8, chars}
 use Rattle.sota_hist.specs.declared.fault.HistFault.TheVariants as times
 use Rattle.sota_script.specs.declared.fault.LineFault.TheVariants as lines
-use Rattle.sota_session.specs.declared.ask.AskFault.TheVariants as asks
+use Rattle.sota_bounds.specs.declared.fault.AskFault.TheVariants as asks
 use Rattle.sota_session.specs.declared.edit.EditFault.TheVariants as edits
-use Rattle.sota_quantile.specs.declared.need.NeedFault.TheVariants as needs
 use Rattle.sota_route.specs.declared.fault.RouteFault.TheVariants as routes
 use Rattle.sota_report.specs.declared.fault.ResolveFault.TheVariants as names
 use Rattle.sota_app.specs.Replies.{refusal_word}
@@ -41,11 +40,5 @@ word_text (refusals.Route (routes.NoLeg place)) = refl
 word_text (refusals.Route (routes.Broken place)) = refl
 word_text (refusals.Route routes.NotThere) = refl
 word_text (refusals.Route routes.NoMemory) = refl
-word_text (refusals.Need needs.NoOrigin) = refl
-word_text (refusals.Need needs.NoDest) = refl
-word_text (refusals.Need needs.Budget) = refl
-word_text (refusals.Need (needs.TableCells count)) = refl
-word_text (refusals.Need (needs.BroadCells count)) = refl
-word_text (refusals.Need needs.NoMemory) = refl
 word_text (refusals.Name names.Place) = refl
 word_text (refusals.Name names.NoMemory) = refl

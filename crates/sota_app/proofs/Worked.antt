@@ -7,7 +7,7 @@ use Rattle.sota_kept.specs.States.{State}
 use Rattle.sota_session.specs.Asks.{ask_fault}
 use Rattle.sota_session.specs.State.{state_after, pushes_for}
 use Rattle.sota_session.specs.declared.ask.Ask.{Ask}
-use Rattle.sota_session.specs.declared.ask.AskFault.{AskFault}
+use Rattle.sota_bounds.specs.declared.fault.AskFault.{AskFault}
 use Rattle.sota_app.specs.Script.{ScriptLine, step}
 use Rattle.sota_app.specs.Shown.{plan_result, unless_fault}
 use Rattle.sota_app.specs.Work.{IsSpent, line_effort, work, pushes_unless}

@@ -30,7 +30,7 @@ use Rattle.sota_app.specs.declared.showing.Plan.{Plan}
 use Rattle.sota_app.specs.declared.reply.Refusal.TheVariants as refusals
 use Rattle.sota_script.specs.declared.command.Ask3.{Ask3}
 use Rattle.sota_session.specs.declared.ask.Ask.{Ask}
-use Rattle.sota_session.specs.declared.ask.AskFault.{AskFault}
+use Rattle.sota_bounds.specs.declared.fault.AskFault.{AskFault}
 use Rattle.sota_app.specs.Verdicts.{verdict_line, bracket_verdict_line, replay_line, verdict_status}
 use Rattle.sota_app.specs.TimedLines.{planned, planned_line, planned_status}
 use Rattle.sota_app.specs.Script.{ScriptLine, ask_on, session_ask, script_lines, replies_to}

@@ -8,10 +8,9 @@ use Rattle.sota_hist.specs.Words as time_words
 use Rattle.sota_script.specs.Words as lines
 use Rattle.sota_session.specs.declared.ask.Ask.{Ask}
 use Rattle.sota_session.specs.declared.ask.Answer.{Answer}
-use Rattle.sota_session.specs.Answers as asks
-use Rattle.sota_session.specs.Words.{ask_word, ask_count, edit_word}
+use Rattle.sota_bounds.specs.AskFaults as asks
+use Rattle.sota_session.specs.Words.{edit_word}
 use Rattle.sota_session.specs.declared.edit.EditFault.TheVariants as edits
-use Rattle.sota_quantile.specs.Faults as needs
 use Rattle.sota_route.specs.Faults as routes
 use Rattle.sota_report.specs.Objects.{reply_text}
 use Rattle.sota_report.specs.Words as names
@@ -40,23 +39,20 @@ is_shortage (refusals.Edit edits.NoMemory) = true
 is_shortage (refusals.Edit fault) = false
 is_shortage (refusals.Ask fault) = asks.is_shortage fault
 is_shortage (refusals.Route fault) = routes.is_shortage fault
-is_shortage (refusals.Need fault) = needs.is_shortage fault
 is_shortage (refusals.Name fault) = names.is_unresolved_shortage fault
 
 abbrev pub refusal_word : Refusal → List ℕ
 refusal_word (refusals.Line fault) = lines.fault_word fault
 refusal_word (refusals.Time fault) = time_words.fault_word fault
 refusal_word (refusals.Edit fault) = edit_word fault
-refusal_word (refusals.Ask fault) = ask_word fault
+refusal_word (refusals.Ask fault) = asks.ask_word fault
 refusal_word (refusals.Route fault) = routes.route_word fault
-refusal_word (refusals.Need fault) = needs.need_word fault
 refusal_word (refusals.Name fault) = names.unresolved_word fault
 
 -- the count that exceeds a limit of size, or the place in a route
 abbrev pub refusal_count : Refusal → Option ℕ
-refusal_count (refusals.Ask fault) = ask_count fault
+refusal_count (refusals.Ask fault) = asks.ask_count fault
 refusal_count (refusals.Route fault) = routes.route_number fault
-refusal_count (refusals.Need fault) = needs.need_count fault
 refusal_count _ = None
 
 -- ---- one reply

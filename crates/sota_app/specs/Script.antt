@@ -9,7 +9,6 @@ use Rattle.sota_hist.specs.Build.{at_most_fault, time_of}
 use Rattle.sota_network.specs.Network.{Net, arc_at, replaced}
 use Rattle.sota_network.specs.Grid.{lo, hi}
 use Rattle.sota_quantile.specs.Needs.{least_budget}
-use Rattle.sota_quantile.specs.Faults.{need_fault}
 use Rattle.sota_script.specs.Lines.{parse_line}
 use Rattle.sota_script.specs.declared.command.Ask3.{Ask3}
 use Rattle.sota_script.specs.declared.command.Command.{Command}
@@ -95,8 +94,7 @@ command_refusal net (commands.Policy ask name) = ask_refusal net ask
 command_refusal net (commands.Bracket ask name) = ask_refusal net ask
 command_refusal net (commands.Route dest budget arcs) =
     option_map (λ fault. refusals.Route fault) (route_fault net dest budget arcs)
-command_refusal net (commands.Need ask confidence) =
-    option_map (λ fault. refusals.Need fault) (need_fault net ask.origin ask.dest ask.budget)
+command_refusal net (commands.Need ask confidence) = ask_refusal net ask
 
 -- the policy of an ask under a name
 abbrev pub policy_file : Net → Ask3 → List ℕ → NamedFile

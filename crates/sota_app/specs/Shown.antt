@@ -10,7 +10,7 @@ use Rattle.sota_make.specs.Made.{made}
 use Rattle.sota_session.specs.Asks.{ask_fault, answer_of}
 use Rattle.sota_session.specs.Plans.{plan_table}
 use Rattle.sota_session.specs.declared.ask.Ask.{Ask}
-use Rattle.sota_session.specs.declared.ask.AskFault.{AskFault}
+use Rattle.sota_bounds.specs.declared.fault.AskFault.{AskFault}
 use Rattle.sota_script.specs.declared.command.Ask3.{Ask3}
 use Rattle.sota_app.specs.declared.showing.Plan.{Plan}
 use Rattle.sota_app.specs.declared.words.MakeWords.{MakeWords}

@@ -10,7 +10,7 @@ use Rattle.sota_script.specs.declared.command.Command.TheVariants as commands
 use Rattle.sota_session.specs.Asks.{ask_fault}
 use Rattle.sota_session.specs.State.{state_after, pushes_for, state_edited}
 use Rattle.sota_session.specs.declared.ask.Ask.{Ask}
-use Rattle.sota_session.specs.declared.ask.AskFault.{AskFault}
+use Rattle.sota_bounds.specs.declared.fault.AskFault.{AskFault}
 use Rattle.sota_app.specs.Outcome.{Job, play, judge, judge_bracket, replay, show, timed}
 use Rattle.sota_app.specs.Script.{ScriptLine, session_ask, command_refusal, step}
 use Rattle.sota_app.specs.declared.reply.Refusal.{Refusal}

@@ -10,7 +10,7 @@ ghost use Rattle.sota_app.specs.declared.reply.Reply.TheVariants.{Answered, Rout
 
 use crate::line::LineOut;
 use sota_hist::HistFault;
-use sota_quantile::{Need, NeedFault};
+use sota_quantile::Need;
 use sota_report::{Reply as Report, ResolveFault, Text};
 use sota_route::{RouteAnswer, RouteFault};
 use sota_script::{FileName, LineFault};
@@ -71,12 +71,10 @@ pub enum Refusal {
     Time(HistFault),
     /// The arc of an edit is not there.
     Edit(EditFault),
-    /// The ask has this fault.
+    /// The ask, or the need, has this fault.
     Ask(AskFault),
     /// The route has this fault.
     Route(RouteFault),
-    /// The need has this fault.
-    Need(NeedFault),
     /// A name of a place is not there.
     Name(ResolveFault),
 }
@@ -121,14 +119,6 @@ impl From<RouteFault> for Refusal {
     }
 }
 
-impl From<NeedFault> for Refusal {
-    ghost from_gives = { λ fault refusal. refusal ≡ refusals.Need fault };
-
-    fn from(fault: NeedFault) -> Self {
-        Refusal::Need(fault)
-    }
-}
-
 impl From<ResolveFault> for Refusal {
     ghost from_gives = { λ fault refusal. refusal ≡ refusals.Name fault };
 
@@ -149,7 +139,6 @@ impl Refusal {
                 | Refusal::Edit(EditFault::NoMemory)
                 | Refusal::Ask(AskFault::NoMemory)
                 | Refusal::Route(RouteFault::NoMemory)
-                | Refusal::Need(NeedFault::NoMemory)
                 | Refusal::Name(ResolveFault::NoMemory)
         )
     }
@@ -164,7 +153,6 @@ impl Refusal {
             Refusal::Edit(fault) => fault.word(),
             Refusal::Ask(fault) => fault.word(),
             Refusal::Route(fault) => fault.word(),
-            Refusal::Need(fault) => fault.word(),
             Refusal::Name(fault) => fault.word(),
         }
     }
@@ -183,7 +171,6 @@ impl Refusal {
         match self {
             Refusal::Ask(fault) => fault.count(),
             Refusal::Route(fault) => fault.number(),
-            Refusal::Need(fault) => fault.count(),
             Refusal::Line(_) | Refusal::Time(_) | Refusal::Edit(_) | Refusal::Name(_) => None,
         }
     }

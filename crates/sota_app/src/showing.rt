@@ -6,7 +6,7 @@ ghost use Rattle.sota_network.specs.Network.{IsNet};
 ghost use Rattle.sota_bounds.specs.Faults.{TABLE_LIMIT};
 ghost use Rattle.sota_polfile.specs.Table.{cells};
 ghost use Rattle.sota_polfile.specs.Spelling.{file_len};
-ghost use Rattle.sota_session.specs.Answers as asks;
+ghost use Rattle.sota_bounds.specs.AskFaults as asks;
 ghost use Rattle.sota_session.specs.Asks.{ask_fault};
 ghost use Rattle.sota_session.specs.State.{kept_state, pushes_for};
 ghost use Rattle.sota_app.specs.Outputs.{Ends, LineEnds};

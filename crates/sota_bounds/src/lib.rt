@@ -13,7 +13,7 @@ mod search;
 
 pub use ask::{AskNeeds, AskRegion, needs_by_least, region};
 pub use edits::{affected, affected_by_least};
-pub use fault::RegionFault;
+pub use fault::{AskFault, RegionFault};
 pub use least::{least_from, least_to};
 pub use range::{RangeFault, check_range};
 

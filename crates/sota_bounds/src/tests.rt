@@ -2,7 +2,8 @@
 ghost use Rattle.std.specs.Prelude.{◌≡◌, ◌≤◌, ◌∷◌, [], length, IfOk};
 
 use crate::{
-    AskRegion, RangeFault, RegionFault, affected, check_range, least_from, least_to, region,
+    AskFault, AskRegion, RangeFault, RegionFault, affected, check_range, least_from, least_to,
+    region,
 };
 use sota_hist::Histogram;
 use sota_network::{Arc, Network};
@@ -137,5 +138,22 @@ fn broad_cells(rt: HostRuntime) -> Result<(), Fail> {
     assert_eq!(rt; narrow.broad_cells, 0);
     let broad = region(rt.alloc(), &network, NodeId(1), NodeId(2), 33)?;
     assert_eq!(rt; broad.broad_cells, 40_326);
+    Ok(())
+}
+
+#[test]
+fn words_and_counts(rt: HostRuntime) -> Result<(), Fail> {
+    let faults = [
+        (AskFault::NoDest, b"NoDest".as_slice(), None),
+        (
+            AskFault::TableCells(60_000_001),
+            b"TableCells".as_slice(),
+            Some(60_000_001),
+        ),
+    ];
+    for (fault, word, count) in faults {
+        assert!(rt; fault.word() == word);
+        assert_eq!(rt; fault.count(), count);
+    }
     Ok(())
 }

@@ -7,7 +7,7 @@ mod planned;
 mod quantile;
 mod search;
 
-pub use need::{Need, NeedFault};
+pub use need::Need;
 pub use quantile::least_budgets;
 
 #[cfg(test)]

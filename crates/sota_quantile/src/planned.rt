@@ -5,13 +5,12 @@ ghost use Rattle.sota_units.specs.Memory.{IsFault};
 ghost use Rattle.sota_network.specs.Network.{IsNode};
 ghost use Rattle.sota_network.specs.Region.{table_cells};
 ghost use Rattle.sota_bounds.specs.Regions.{IsRegion};
+ghost use Rattle.sota_bounds.specs.AskFaults.{size_refusal, is_shortage};
 ghost use Rattle.sota_bounds.specs.Faults.{TABLE_LIMIT, BROAD_LIMIT};
 ghost use Rattle.sota_quantile.specs.Bounds.{HasBounds};
-ghost use Rattle.sota_quantile.specs.Faults.{need_size_fault, is_shortage};
 
-use crate::need::NeedFault;
 use sota_bounds::laws::asks_miss;
-use sota_bounds::{AskRegion, region};
+use sota_bounds::{AskFault, AskRegion, region};
 use sota_kept::kept::{needs_are_met, settled_entries};
 use sota_network::Network;
 use sota_network::laws::{grid_recurs, lists_by_number};
@@ -35,14 +34,14 @@ pub(crate) fn plan<M: Ledger, P: Ledger>(
     budget: u32,
     products: &mut Steps<M>,
     pushes: &mut Steps<P>,
-) -> Result<Tables, NeedFault>
+) -> Result<Tables, AskFault>
     requires origin { IsNode network.now origin }
     requires dest { IsNode network.now dest }
     requires budget { budget ≤ BUDGET_LIMIT }
     ensures bounds { IfOk result (λ tables. HasBounds tables network.now dest origin budget) }
-    ensures ok { OnOk result (need_size_fault network.now origin dest budget ≡ None) }
+    ensures ok { OnOk result (size_refusal network.now origin dest budget ≡ None) }
     ensures fault { IfErr result (λ fault.
-        IsFault is_shortage (need_size_fault network.now origin dest budget) fault) }
+        IsFault is_shortage (size_refusal network.now origin dest budget) fault) }
     ensures count { OnOk result (pushes.new
         ≡ pushes.old + 3 * table_cells network.now origin dest budget) }
     ensures refused { OnErr result (pushes.new ≡ pushes.old) }

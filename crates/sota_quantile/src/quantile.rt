@@ -5,15 +5,15 @@ ghost use Rattle.sota_units.specs.Memory.{IsFault};
 ghost use Rattle.sota_network.specs.Network.{IsNet};
 ghost use Rattle.sota_network.specs.Grid.{lo, hi};
 ghost use Rattle.sota_network.specs.Region.{table_cells};
+ghost use Rattle.sota_bounds.specs.AskFaults.{first_refusal, range_refusal, is_shortage};
+ghost use Rattle.sota_bounds.specs.declared.fault.AskFault.TheVariants as asks;
 ghost use Rattle.sota_quantile.specs.Needs.{ReachesWith, least_budget};
-ghost use Rattle.sota_quantile.specs.Faults.{need_range_fault, need_fault, is_shortage};
-ghost use Rattle.sota_quantile.specs.declared.need.NeedFault.TheVariants as needs;
 
 use crate::laws::needs_by_trees;
-use crate::need::{Need, NeedFault};
+use crate::need::Need;
 use crate::planned::plan;
 use crate::search::find_least;
-use sota_bounds::check_range;
+use sota_bounds::{AskFault, check_range};
 use sota_network::Network;
 use sota_network::laws::values_rise;
 use sota_sums::Bound;
@@ -38,12 +38,12 @@ pub fn least_budgets<M: Ledger, P: Ledger>(
     most: u32,
     products: &mut Steps<M>,
     pushes: &mut Steps<P>,
-) -> Result<Need, NeedFault>
-    ensures ok { OnOk result (need_fault network.now origin dest most ≡ None) }
+) -> Result<Need, AskFault>
+    ensures ok { OnOk result (first_refusal network.now origin dest most ≡ None) }
     ensures fault { IfErr result (λ fault.
-        IsFault is_shortage (need_fault network.now origin dest most) fault) }
-    ensures memory { result ≡ Err needs.NoMemory
-        → need_range_fault network.now origin dest most ≡ None }
+        IsFault is_shortage (first_refusal network.now origin dest most) fault) }
+    ensures memory { result ≡ Err asks.NoMemory
+        → range_refusal network.now origin dest most ≡ None }
     ensures early { IfOk result (λ need.
         need.early ≡ least_budget (hi network.now dest origin) confidence most) }
     ensures sure { IfOk result (λ need.

@@ -2,7 +2,8 @@
 ghost use Rattle.std.specs.Prelude.{◌≡◌, ◌<◌, length, IfOk};
 ghost use Rattle.sota_hist.specs.Time.{IsTime, total};
 
-use crate::{Need, NeedFault, least_budgets};
+use crate::{Need, least_budgets};
+use sota_bounds::AskFault;
 use sota_hist::Histogram;
 use sota_network::{Arc, Network};
 use sota_units::{Grain, Mass, NodeId, Scale, Steps, Tick};
@@ -57,7 +58,7 @@ fn need_counted<M: Ledger, P: Ledger>(
     wanted: Wanted,
     products: Blank,
     pushes: Blank,
-) -> Result<Need, NeedFault>
+) -> Result<Need, AskFault>
     requires products { (products.name ≡ M.name) × (products.parts ≡ M.parts)
         × (0 < products.parts) }
     requires pushes { (pushes.name ≡ P.name) × (pushes.parts ≡ P.parts)
@@ -80,12 +81,12 @@ fn need_counted<M: Ledger, P: Ledger>(
 }
 
 /// The need for what is asked.
-fn need(alloc: Global, network: &Network, wanted: Wanted) -> Result<Need, NeedFault> {
+fn need(alloc: Global, network: &Network, wanted: Wanted) -> Result<Need, AskFault> {
     need_counted::<Brand, Brand>(alloc, network, wanted, Blank::new(1), Blank::new(1))
 }
 
 /// An answer.
-fn found(early: Option<u32>, sure: Option<u32>) -> Result<Need, NeedFault> {
+fn found(early: Option<u32>, sure: Option<u32>) -> Result<Need, AskFault> {
     Ok(Need { early, sure })
 }
 
@@ -102,9 +103,9 @@ fn needs_of_a_triangle(rt: HostRuntime) -> Result<(), Fail> {
             (3, 3, 1_000_000_000_000_000_000, 0),
             found(Some(0), Some(0)),
         ),
-        ((4, 4, 0, 65_536), Err(NeedFault::NoOrigin)),
-        ((1, 0, 0, 65_536), Err(NeedFault::NoDest)),
-        ((1, 3, 0, 65_536), Err(NeedFault::Budget)),
+        ((4, 4, 0, 65_536), Err(AskFault::NoOrigin)),
+        ((1, 0, 0, 65_536), Err(AskFault::NoDest)),
+        ((1, 3, 0, 65_536), Err(AskFault::Budget)),
     ];
     for (wanted, answer) in rows {
         assert_eq!(rt; need(rt.alloc(), &network, wanted), answer);
@@ -124,23 +125,6 @@ fn needs_of_a_chain(rt: HostRuntime) -> Result<(), Fail> {
     ];
     for (wanted, answer) in rows {
         assert_eq!(rt; need(rt.alloc(), &network, wanted), answer);
-    }
-    Ok(())
-}
-
-#[test]
-fn words_and_counts(rt: HostRuntime) -> Result<(), Fail> {
-    let faults = [
-        (NeedFault::NoDest, b"NoDest".as_slice(), None),
-        (
-            NeedFault::BroadCells(40_000_001),
-            b"BroadCells".as_slice(),
-            Some(40_000_001),
-        ),
-    ];
-    for (fault, word, count) in faults {
-        assert!(rt; fault.word() == word);
-        assert_eq!(rt; fault.count(), count);
     }
     Ok(())
 }

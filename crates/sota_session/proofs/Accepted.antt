@@ -12,7 +12,8 @@ use Rattle.sota_bounds.specs.declared.range.RangeFault.{RangeFault}
 use Rattle.sota_bounds.specs.declared.range.RangeFault.TheVariants.{NoOrigin, NoDest, Budget}
 use Rattle.sota_bounds.specs.declared.fault.RegionFault.{RegionFault}
 use Rattle.sota_bounds.specs.declared.fault.RegionFault.TheVariants.{TableCells}
-use Rattle.sota_session.specs.Asks.{range_cause, size_cause, ask_fault}
+use Rattle.sota_bounds.specs.AskFaults.{range_cause, size_cause}
+use Rattle.sota_session.specs.Asks.{ask_fault}
 use Rattle.sota_session.specs.declared.ask.Ask.{Ask}
 
 neither : (range : Option RangeFault) (size : Option RegionFault)

@@ -2,7 +2,7 @@
 use Rattle.std.proofs.Common.{ℕ, ◌≡◌, ◌+◌, Result, OnErr, subst, inl, inr}
 use Rattle.sota_kept.specs.TableLists.{TableLists, state_of}
 use Rattle.sota_session.specs.declared.ask.Ask.{Ask}
-use Rattle.sota_session.specs.declared.ask.AskFault.{AskFault}
+use Rattle.sota_bounds.specs.declared.fault.AskFault.{AskFault}
 use Rattle.sota_session.specs.State.{SessionState, kept_state, state_after, pushes_for, IsLeft, MayLeave}
 use Rattle.sota_session.proofs.Results.{on-err}
 

@@ -1,8 +1,8 @@
 -- Kinds of refusals.
 use Rattle.std.specs.Prelude.{Bool, true, false, Option, None, Some, Result, Ok, Err}
 use Rattle.std.specs.Prelude.{if◌then◌else◌}
-use Rattle.sota_session.specs.declared.ask.AskFault.{AskFault}
-use Rattle.sota_session.specs.declared.ask.AskFault.TheVariants as asks
+use Rattle.sota_bounds.specs.declared.fault.AskFault.{AskFault}
+use Rattle.sota_bounds.specs.declared.fault.AskFault.TheVariants as asks
 
 -- a number of the ask is out of range
 abbrev pub is_of_range : AskFault → Bool
@@ -16,11 +16,6 @@ abbrev pub is_of_size : AskFault → Bool
 is_of_size (asks.TableCells count) = true
 is_of_size (asks.BroadCells count) = true
 is_of_size _ = false
-
--- memory was wanted
-abbrev pub is_shortage : AskFault → Bool
-is_shortage asks.NoMemory = true
-is_shortage _ = false
 
 -- whether a call was refused for a fault of this kind
 abbrev pub is_refused : {A E : Type 0} → (E → Bool) → Result A E → Bool

@@ -19,6 +19,7 @@ mod session;
 #[cfg(test)]
 mod tests;
 
-pub use ask::{Answer, Ask, AskFault};
+pub use ask::{Answer, Ask};
 pub use edit::EditFault;
 pub use session::Session;
+pub use sota_bounds::AskFault;

@@ -7,21 +7,21 @@ ghost use Rattle.sota_network.specs.Network.{Net, IsNet, IsNode};
 ghost use Rattle.sota_kept.specs.Ticks.{least_to};
 ghost use Rattle.sota_kept.specs.States.{after_ask, grown_state, missing, prepared_state};
 ghost use Rattle.sota_kept.specs.TableLists.{IsKept, IsSettled, state_of};
+ghost use Rattle.sota_bounds.specs.AskFaults.{range_refusal, size_refusal, is_shortage};
 ghost use Rattle.sota_bounds.specs.Faults.{TABLE_LIMIT, BROAD_LIMIT, region_fault};
-ghost use Rattle.sota_bounds.specs.Faults as bounds;
+ghost use Rattle.sota_bounds.specs.Faults as regions;
 ghost use Rattle.sota_bounds.specs.Regions.{AreLeastTo, IsRegion};
 ghost use Rattle.sota_bounds.specs.declared.ask.AskRegion.{AskRegion};
+ghost use Rattle.sota_bounds.specs.declared.fault.AskFault.TheVariants as asks;
 ghost use Rattle.sota_tables.specs.Views.{TablesView, lists_of, table_at};
-ghost use Rattle.sota_session.specs.Asks.{range_fault, size_fault, IsInRange};
-ghost use Rattle.sota_session.specs.Answers.{is_of_range, is_of_size, is_shortage};
-ghost use Rattle.sota_session.specs.Answers.{is_refused, refusal_of};
+ghost use Rattle.sota_session.specs.Asks.{IsInRange};
+ghost use Rattle.sota_session.specs.Answers.{is_of_range, is_of_size, is_refused, refusal_of};
 ghost use Rattle.sota_session.specs.Rows.{IsPlanned};
 ghost use Rattle.sota_session.specs.State.{IsLeft, pushes_for, state_after};
-ghost use Rattle.sota_session.specs.declared.ask.AskFault.TheVariants as asks;
 
-use crate::ask::{Ask, AskFault};
+use crate::ask::Ask;
 use crate::roads::Roads;
-use sota_bounds::{AskRegion, RegionFault, check_range, least_to, needs_by_least};
+use sota_bounds::{AskFault, AskRegion, RegionFault, check_range, least_to, needs_by_least};
 use sota_kept::kept::{needs_are_met, settled_entries};
 use sota_network::Network;
 use sota_network::laws::{grid_recurs, lists_by_number};
@@ -46,10 +46,11 @@ pub(crate) fn plan<M: Ledger, P: Ledger>(
     pushes: &mut Steps<P>,
 ) -> Result<AskRegion, AskFault>
     requires kept { IsKept (lists_of tables.old) roads.old }
-    ensures range { refusal_of is_of_range result ≡ range_fault roads.old ask.now }
-    ensures size { range_fault roads.old ask.now ≡ None
-        → Unless (is_refused is_shortage result)
-        (refusal_of is_of_size result ≡ size_fault roads.old ask.now) }
+    ensures range { refusal_of is_of_range result
+        ≡ range_refusal roads.old ask.now.origin ask.now.dest ask.now.budget }
+    ensures size { range_refusal roads.old ask.now.origin ask.now.dest ask.now.budget ≡ None
+        → Unless (is_refused is_shortage result) (refusal_of is_of_size result
+        ≡ size_refusal roads.old ask.now.origin ask.now.dest ask.now.budget) }
     ensures memory { result ≡ Err asks.NoMemory → IsInRange roads.old ask.now }
     ensures in_range { OnOk result (IsInRange roads.old ask.now) }
     ensures asked { IfOk result (λ made. (made.origin ≡ ask.now.origin)
@@ -86,7 +87,7 @@ fn region_of(alloc: Global, roads: &mut Roads, ask: &Ask) -> Result<AskRegion, R
         (made.table_cells ≤ TABLE_LIMIT) × (made.broad_cells ≤ BROAD_LIMIT)) }
     ensures ok { OnOk result
         (region_fault roads.old ask.now.origin ask.now.dest ask.now.budget ≡ None) }
-    ensures fault { IfErr result (λ fault. IsFault bounds.is_shortage
+    ensures fault { IfErr result (λ fault. IsFault regions.is_shortage
         (region_fault roads.old ask.now.origin ask.now.dest ask.now.budget) fault) }
     ensures same { roads.new ≡ roads.old }
 {

@@ -13,12 +13,13 @@ ghost use Rattle.sota_session.specs.Calls.{IsAsked};
 ghost use Rattle.sota_session.specs.Cuts.{IsCutFor};
 ghost use Rattle.sota_session.specs.declared.edit.EditFault.TheVariants as edits;
 
-use crate::ask::{Answer, Ask, AskFault};
+use crate::ask::{Answer, Ask};
 use crate::cut::cut_all;
 use crate::edit::EditFault;
 use crate::plan::plan;
 use crate::planned_table::PlannedTable;
 use crate::roads::Roads;
+use sota_bounds::AskFault;
 use sota_hist::Histogram;
 use sota_kept::kept::tables_stay_right;
 use sota_kept::laws::edits_affect;

@@ -207,19 +207,7 @@ fn refused_asks(rt: HostRuntime) -> Result<(), Fail> {
 }
 
 #[test]
-fn words_and_counts(rt: HostRuntime) -> Result<(), Fail> {
-    let faults = [
-        (AskFault::NoDest, b"NoDest".as_slice(), None),
-        (
-            AskFault::TableCells(60_000_001),
-            b"TableCells".as_slice(),
-            Some(60_000_001),
-        ),
-    ];
-    for (fault, word, count) in faults {
-        assert!(rt; fault.word() == word);
-        assert_eq!(rt; fault.count(), count);
-    }
+fn words_of_edits(rt: HostRuntime) -> Result<(), Fail> {
     assert!(rt; EditFault::NoArc.word() == b"NoArc".as_slice());
     Ok(())
 }

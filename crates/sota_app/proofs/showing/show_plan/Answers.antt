@@ -3,7 +3,7 @@ use Rattle.sota_network.specs.Network.{IsNet}
 use Rattle.sota_kept.specs.States.{first_state}
 use Rattle.sota_units.specs.Memory.{Unless}
 use Rattle.sota_edge.specs.Sink.{SinkState}
-use Rattle.sota_session.specs.Answers as asks
+use Rattle.sota_bounds.specs.AskFaults as asks
 use Rattle.sota_session.specs.Asks.{ask_fault}
 use Rattle.sota_session.specs.State.{kept_state}
 use Rattle.sota_app.specs.Script.{session_ask}
