@@ -1,5 +1,5 @@
 -- When the region of an ask is too large to plan for.
-use Rattle.std.specs.Prelude.{ℕ, nat_lt, Bool, true, false, Option, None, Some, if◌then◌else◌}
+use Rattle.std.specs.Prelude.{ℕ, ◌≤◌, nat_lt, Bool, true, false, Option, None, Some, if◌then◌else◌}
 use Rattle.sota_network.specs.Network.{Net}
 use Rattle.sota_network.specs.Region.{table_cells, broad_cells}
 use Rattle.sota_bounds.specs.declared.fault.RegionFault.{RegionFault}
@@ -12,6 +12,10 @@ TABLE_LIMIT = 60000000
 
 abbrev pub BROAD_LIMIT : ℕ
 BROAD_LIMIT = 40000000
+
+-- so many table cells and broad cells are planned for
+abbrev pub AreWithinLimits : ℕ → ℕ → Type 0
+AreWithinLimits table broad = (table ≤ TABLE_LIMIT) × (broad ≤ BROAD_LIMIT)
 
 -- by these counts
 abbrev pub cells_fault : ℕ → ℕ → Option RegionFault

@@ -3,7 +3,7 @@ ghost use Rattle.std.specs.Prelude.{ℕ, ◌≡◌, ◌≤◌, IfOk, IfErr, OnOk
 ghost use Rattle.sota_units.specs.Limits.{BUDGET_LIMIT};
 ghost use Rattle.sota_units.specs.Memory.{IsFault};
 ghost use Rattle.sota_network.specs.Network.{Net, IsNode};
-ghost use Rattle.sota_bounds.specs.Faults.{region_fault, is_shortage, TABLE_LIMIT, BROAD_LIMIT};
+ghost use Rattle.sota_bounds.specs.Faults.{region_fault, is_shortage, AreWithinLimits};
 ghost use Rattle.sota_bounds.specs.Regions.{IsRegion, AreNeeds, AreLeastTo};
 
 use crate::RegionFault;
@@ -93,8 +93,7 @@ pub fn region(
     requires dest { IsNode network.now dest }
     requires budget { budget ≤ BUDGET_LIMIT }
     ensures made { IfOk result (λ made. IsRegion made network.now origin dest budget) }
-    ensures within { IfOk result (λ made.
-        (made.table_cells ≤ TABLE_LIMIT) × (made.broad_cells ≤ BROAD_LIMIT)) }
+    ensures within { IfOk result (λ made. AreWithinLimits made.table_cells made.broad_cells) }
     ensures ok { OnOk result (region_fault network.now origin dest budget ≡ None) }
     ensures fault { IfErr result (λ fault.
         IsFault is_shortage (region_fault network.now origin dest budget) fault) }
@@ -120,8 +119,7 @@ pub fn needs_by_least(
     requires least { AreLeastTo network.now dest least.now }
     ensures made { IfOk result (λ made.
         AreNeeds made network.now least.now origin dest budget) }
-    ensures within { IfOk result (λ made.
-        (made.table_cells ≤ TABLE_LIMIT) × (made.broad_cells ≤ BROAD_LIMIT)) }
+    ensures within { IfOk result (λ made. AreWithinLimits made.table_cells made.broad_cells) }
     ensures ok { OnOk result (region_fault network.now origin dest budget ≡ None) }
     ensures fault { IfErr result (λ fault.
         IsFault is_shortage (region_fault network.now origin dest budget) fault) }

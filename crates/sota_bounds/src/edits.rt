@@ -1,12 +1,10 @@
 // From which budget on another time of an arc can change what is planned for a node.
-ghost use Rattle.std.specs.Prelude.{ℕ, ◌≡◌, ◌-◌, ◌≤◌, length, slice_index_or, IfOk, IfSome};
-ghost use Rattle.std.specs.Prelude.{None, Some};
+ghost use Rattle.std.specs.Prelude.{ℕ, ◌≡◌, ◌≤◌, length, IfOk, IfSome};
 ghost use Rattle.std.specs.List.{All};
 ghost use Rattle.sota_units.specs.Limits.{NODE_LIMIT};
-ghost use Rattle.sota_network.specs.Network.{IsNode, arc_at};
-ghost use Rattle.sota_network.specs.declared.network.Arc.{Arc};
+ghost use Rattle.sota_network.specs.Network.{IsNode};
 ghost use Rattle.sota_kept.specs.Edits.{first_affected_by};
-ghost use Rattle.sota_bounds.specs.Affected.{IsFirstAffected};
+ghost use Rattle.sota_bounds.specs.Affected.{AreFirstAffected};
 ghost use Rattle.sota_bounds.specs.Regions.{AreLeastTo};
 ghost use Rattle.sota_bounds.specs.Search.{TIME_LIMIT, time_at};
 
@@ -28,10 +26,7 @@ pub fn affected(
 ) -> Result<Vec<Option<u64>>, NoMemory>
     requires dest { IsNode network.now dest }
     requires arc { (1 ≤ arc) × (arc ≤ length network.now.arcs) }
-    ensures nodes { IfOk result (λ budgets. length budgets.items ≡ network.now.nodes) }
-    ensures value { IfOk result (λ budgets. (i : ℕ) (edited : Arc) → IsNode network.now i
-        → arc_at network.now arc ≡ Some edited → IsFirstAffected network.now dest edited first i
-        (slice_index_or budgets.items (i - 1) None)) }
+    ensures { IfOk result (λ budgets. AreFirstAffected network.now dest arc first budgets.items) }
 {
     let least = least_to(alloc, network, dest)?;
     affected_by_least(alloc, network, &least, dest, arc, first)
@@ -48,10 +43,7 @@ pub fn affected_by_least(
 ) -> Result<Vec<Option<u64>>, NoMemory>
     requires least { AreLeastTo network.now dest least.now }
     requires arc { (1 ≤ arc) × (arc ≤ length network.now.arcs) }
-    ensures nodes { IfOk result (λ budgets. length budgets.items ≡ network.now.nodes) }
-    ensures value { IfOk result (λ budgets. (i : ℕ) (edited : Arc) → IsNode network.now i
-        → arc_at network.now arc ≡ Some edited → IsFirstAffected network.now dest edited first i
-        (slice_index_or budgets.items (i - 1) None)) }
+    ensures { IfOk result (λ budgets. AreFirstAffected network.now dest arc first budgets.items) }
 {
     let arc = network.numbered(arc);
     let onward = least[arc.head.get() as usize - 1];

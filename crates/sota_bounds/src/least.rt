@@ -4,6 +4,7 @@ ghost use Rattle.std.specs.Prelude.{None};
 ghost use Rattle.std.specs.List.{All};
 ghost use Rattle.sota_network.specs.Network.{IsNode};
 ghost use Rattle.sota_network.specs.Walks.{IsLeastTime};
+ghost use Rattle.sota_bounds.specs.Regions.{AreLeastTo};
 ghost use Rattle.sota_bounds.specs.Search.{TIME_LIMIT};
 
 use crate::search::{Direction, least_times};
@@ -20,11 +21,7 @@ pub fn least_to(
     dest: NodeId,
 ) -> Result<Vec<Option<u64>>, NoMemory>
     requires { IsNode network.now dest }
-    ensures nodes { IfOk result (λ times. length times.items ≡ network.now.nodes) }
-    ensures least { IfOk result (λ times. (i : ℕ) → IsNode network.now i
-        → IsLeastTime network.now dest i dest (slice_index_or times.items (i - 1) None)) }
-    ensures within { IfOk result (λ times.
-        All (λ time. IfSome time (λ n. n ≤ TIME_LIMIT)) times.items) }
+    ensures { IfOk result (λ times. AreLeastTo network.now dest times.items) }
 {
     least_times(alloc, network, Direction::Against, dest, dest)
 }

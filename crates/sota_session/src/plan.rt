@@ -8,7 +8,8 @@ ghost use Rattle.sota_kept.specs.Ticks.{least_to};
 ghost use Rattle.sota_kept.specs.States.{after_ask, grown_state, missing, prepared_state};
 ghost use Rattle.sota_kept.specs.TableLists.{IsKept, IsSettled, state_of};
 ghost use Rattle.sota_bounds.specs.AskFaults.{range_refusal, size_refusal, is_shortage};
-ghost use Rattle.sota_bounds.specs.Faults.{TABLE_LIMIT, BROAD_LIMIT, region_fault};
+ghost use Rattle.sota_bounds.specs.Faults.{TABLE_LIMIT, BROAD_LIMIT, AreWithinLimits};
+ghost use Rattle.sota_bounds.specs.Faults.{region_fault};
 ghost use Rattle.sota_bounds.specs.Faults as regions;
 ghost use Rattle.sota_bounds.specs.Regions.{AreLeastTo, IsRegion};
 ghost use Rattle.sota_bounds.specs.declared.ask.AskRegion.{AskRegion};
@@ -83,8 +84,7 @@ fn region_of(alloc: Global, roads: &mut Roads, ask: &Ask) -> Result<AskRegion, R
     ensures made { IfOk result (λ made.
         IsRegion made roads.old ask.now.origin ask.now.dest ask.now.budget) }
     ensures least { IfOk result (λ made. AreLeastTo roads.old ask.now.dest made.least) }
-    ensures within { IfOk result (λ made.
-        (made.table_cells ≤ TABLE_LIMIT) × (made.broad_cells ≤ BROAD_LIMIT)) }
+    ensures within { IfOk result (λ made. AreWithinLimits made.table_cells made.broad_cells) }
     ensures ok { OnOk result
         (region_fault roads.old ask.now.origin ask.now.dest ask.now.budget ≡ None) }
     ensures fault { IfErr result (λ fault. IsFault regions.is_shortage

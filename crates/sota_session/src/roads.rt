@@ -1,12 +1,10 @@
 // The network of a session, and the least times that are kept of it.
-ghost use Rattle.std.specs.Prelude.{ℕ, ◌≡◌, ◌≤◌, length, None, Some, IsTrue};
+ghost use Rattle.std.specs.Prelude.{◌≡◌, ◌≤◌, length, None, IsTrue};
 ghost use Rattle.std.specs.Prelude.{IfErr, IfOk, IfSome, OnErr, OnOk};
 ghost use Rattle.sota_hist.specs.Time.{IsTime, total};
 ghost use Rattle.sota_network.specs.Network.{IsNet, IsNode, arc_at, replaced};
-ghost use Rattle.sota_network.specs.declared.network.Arc.{Arc};
-ghost use Rattle.sota_bounds.specs.Affected.{IsFirstAffected};
+ghost use Rattle.sota_bounds.specs.Affected.{AreFirstAffected};
 ghost use Rattle.sota_bounds.specs.Regions.{AreLeastTo};
-ghost use Rattle.sota_bounds.specs.Search.{time_at};
 ghost use Rattle.sota_session.specs.Roads.{KeepsTicks};
 
 use sota_bounds::{affected, affected_by_least};
@@ -107,10 +105,7 @@ impl Roads {
     ) -> Result<Vec<Option<u64>>, NoMemory>
         requires dest { IsNode self.now dest }
         requires arc { (1 ≤ arc) × (arc ≤ length self.now.arcs) }
-        ensures nodes { IfOk result (λ budgets. length budgets.items ≡ self.now.nodes) }
-        ensures value { IfOk result (λ budgets. (i : ℕ) (edited : Arc) → IsNode self.now i
-            → arc_at self.now arc ≡ Some edited → IsFirstAffected self.now dest edited first i
-            (time_at budgets.items i)) }
+        ensures { IfOk result (λ budgets. AreFirstAffected self.now dest arc first budgets.items) }
     {
         match self.times_to(dest) {
             Some(times) => affected_by_least(alloc, &self.network, times, dest, arc, first),
