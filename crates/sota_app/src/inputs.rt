@@ -132,10 +132,10 @@ fn take_weights(alloc: Global, graph: RawGraph) -> Result<Network, NoInput>
 }
 
 /// The network of a graph and of the text of its histograms.
-fn parse_hists(alloc: Global, bytes: &[u8], graph: RawGraph) -> Result<Network, NoInput>
-    requires size { length bytes.now ≤ TEXT_LIMIT }
+fn parse_hists(alloc: Global, bytes: Vec<u8>, graph: RawGraph) -> Result<Network, NoInput>
+    requires size { length bytes.items ≤ TEXT_LIMIT }
     requires graph { IsGraph graph }
-    ensures read { TextAnswers result (read_hists graph bytes.now) }
+    ensures read { TextAnswers result (read_hists graph bytes.items) }
     ensures roads { IfOk result (λ network. HasRoads graph network) }
 {
     accepted_texts();
@@ -163,7 +163,7 @@ pub fn load_hists<D: Desk>(
         return take_weights(alloc, graph);
     }
     let bytes = load_input(alloc, Input::Hists, name, desk)?;
-    parse_hists(alloc, &bytes, graph)
+    parse_hists(alloc, bytes, graph)
 }
 
 /// The network of the graph in the file of this name and of a word for its histograms.

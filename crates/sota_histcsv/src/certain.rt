@@ -21,6 +21,7 @@ pub fn certain_network(alloc: Global, graph: RawGraph) -> Result<Network, HistFi
     ensures { Answers is_shortage result (certain_net graph) }
 {
     let arcs = certain_arcs(alloc, graph.arcs.as_slice())?;
+    drop(graph.arcs);
     Ok(Network::build(alloc, graph.nodes, Scale::ONE, arcs)?)
 }
 

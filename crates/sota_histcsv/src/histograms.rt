@@ -22,24 +22,29 @@ use std::alloc::Global;
 /// What the masses of an arc lack of the scale is the chance that a traversal never ends. An arc
 /// that no record gives mass takes its weight. A record's fault comes before those of arcs, the
 /// least record or arc first. It takes time linear in the text and the graph, but for sorting the
-/// records by their arcs and ticks.
+/// records by their arcs and ticks. The bytes are let go once the records are read, and the records
+/// and the graph's arcs once each arc has its time.
 pub fn read_histograms(
     alloc: Global,
-    bytes: &[u8],
+    bytes: Vec<u8>,
     graph: RawGraph,
 ) -> Result<Network, HistFileFault>
-    requires size { length bytes.now ≤ TEXT_LIMIT }
+    requires size { length bytes.items ≤ TEXT_LIMIT }
     requires graph { IsGraph graph }
-    ensures { Answers is_shortage result (hist_net bytes.now graph) }
+    ensures { Answers is_shortage result (hist_net bytes.items graph) }
 {
     order_of_pairs();
-    let text = without_mark(bytes);
+    let text = without_mark(&bytes);
     if is_marked(text) {
         return Err(HistFileFault::Header);
     }
     let table = read_table(alloc, text, graph.arcs.as_slice().len() as u32)?;
+    drop(bytes);
     let arcs = timed_arcs(alloc, &table, graph.arcs.as_slice())?;
-    Ok(Network::build(alloc, graph.nodes, table.scale, arcs)?)
+    let scale = table.scale;
+    drop(table);
+    drop(graph.arcs);
+    Ok(Network::build(alloc, graph.nodes, scale, arcs)?)
 }
 
 /// The byte order mark of UTF-8.

@@ -28,7 +28,7 @@ fn records_give_times(rt: HostRuntime) -> Result<(), Fail> {
     let alloc = rt.alloc();
     let graph = read_graph(alloc, TRIANGLE)?;
     let text = b"\xEF\xBB\xBFarc,tick,mass/4\r\n3,5,1\n1,0,0\n1,\"2\",4\n\n3,3,3";
-    let network = read_histograms(alloc, text, graph)?;
+    let network = read_histograms(alloc, text.to_vec(alloc)?, graph)?;
     assert_eq!(rt; network.scale().get(), 4);
     let arc = network.arc(ArcId(3)).ok_or("no third arc")?;
     assert_eq!(rt;
@@ -46,7 +46,8 @@ fn records_give_times(rt: HostRuntime) -> Result<(), Fail> {
 fn masses_are_lost(rt: HostRuntime) -> Result<(), Fail> {
     let alloc = rt.alloc();
     let graph = read_graph(alloc, TRIANGLE)?;
-    let network = read_histograms(alloc, b"arc,tick,mass/4\n1,2,1\n1,1,2\n3,5,0", graph)?;
+    let text = b"arc,tick,mass/4\n1,2,1\n1,1,2\n3,5,0";
+    let network = read_histograms(alloc, text.to_vec(alloc)?, graph)?;
     let pairs = [
         (1, [(Tick(1), Mass(2)), (Tick(2), Mass(1))].as_slice()),
         (2, [(Tick(1), Mass(4))].as_slice()),
@@ -106,7 +107,7 @@ fn first_faults(rt: HostRuntime) -> Result<(), Fail> {
     for (bytes, want) in faults {
         let graph = read_graph(rt.alloc(), TRIANGLE)?;
         assert!(rt; bytes.len() < 1000);
-        let fault = read_histograms(rt.alloc(), bytes, graph).err();
+        let fault = read_histograms(rt.alloc(), bytes.to_vec(rt.alloc())?, graph).err();
         assert_eq!(rt; fault, Some(want), "{}", bytes.len());
     }
     Ok(())
@@ -127,7 +128,7 @@ fn least_arc_first(rt: HostRuntime) -> Result<(), Fail> {
     for (bytes, want) in faults {
         let graph = read_graph(rt.alloc(), b"p sp 2 2\na 1 2 0\na 1 2 0\n")?;
         assert!(rt; bytes.len() < 1000);
-        let fault = read_histograms(rt.alloc(), bytes, graph).err();
+        let fault = read_histograms(rt.alloc(), bytes.to_vec(rt.alloc())?, graph).err();
         assert_eq!(rt; fault, Some(want));
     }
     Ok(())

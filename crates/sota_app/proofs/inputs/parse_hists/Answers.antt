@@ -5,7 +5,7 @@ use Rattle.sota_app.proofs.inputs.parse_hists.Goals as goal
 
 pub returns-in-Ok-clause-roads : goal.returns-in-Ok-clause-roads
 returns-in-Ok-clause-roads c =
-    let bytes = c.args.bytes.now in
+    let bytes = c.args.bytes.items in
     let graph = c.args.graph in
     let net = c.in-Ok.network in
     let is : hist_net bytes graph ≡ Ok net = search rules in

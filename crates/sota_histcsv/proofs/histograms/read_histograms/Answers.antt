@@ -2,6 +2,7 @@ use Rattle.std.proofs.Common.{◌≡◌, Ok, ap, sym, ◌∙◌, arith}
 use Rattle.std.proofs.lemmas.Result.{err_from_is_err_and}
 use Rattle.std.proofs.lemmas.List.Sorted.{All-permutation}
 use Rattle.sota_histcsv.specs.Words.{is_shortage}
+use Rattle.sota_histcsv.specs.Records.{without_mark}
 use Rattle.sota_histcsv.specs.Histograms.{timed}
 use Rattle.sota_histcsv.specs.Kept.{HasNoZero, contents_in}
 use Rattle.sota_histcsv.proofs.Keeping.{unless_more}
@@ -10,14 +11,18 @@ use Rattle.sota_histcsv.proofs.Whole.{IsRead, AreArcs, is_read, are_arcs, net_re
 use Rattle.sota_histcsv.proofs.histograms.read_histograms.Goals.{In_ok-table, After-as_slice-2, In_ok-arcs}
 use Rattle.sota_histcsv.proofs.histograms.read_histograms.Goals as goal
 
+-- the text is the bytes after a mark
+text : (c : In_ok-table) → c.without_mark-text.result.now ≡ without_mark c.args.bytes.items
+text c = c.without_mark-text.ensures ∙ ap without_mark c.deref.ensures.value
+
 -- the table that was read
-read : (c : In_ok-table) → IsRead c.args.bytes.now c.args.graph c.in_ok-table.table
+read : (c : In_ok-table) → IsRead c.args.bytes.items c.args.graph c.in_ok-table.table
 read c =
-    is_read c.args.bytes.now c.without_mark-text.result.now c.as_slice.result.now c.args.graph c.in_ok-table.table
-    c.without_mark-text.ensures c.as_slice.ensures c.in_ok-table.ensures.holds
+    is_read c.args.bytes.items c.without_mark-text.result.now c.as_slice.result.now c.args.graph c.in_ok-table.table
+    (text c) c.as_slice.ensures c.in_ok-table.ensures.holds
 
 -- the arcs that are timed by its moved entries are those of the text
-same : (c : After-as_slice-2) → (is : IsRead c.args.bytes.now c.args.graph c.in_ok-table.table)
+same : (c : After-as_slice-2) → (is : IsRead c.args.bytes.items c.args.graph c.in_ok-table.table)
     → timed is.known c.args.graph.arcs ≡ timed (contents_in c.in_ok-table.table) c.as_slice-2.result.now
 same c is =
     sym (timed_moved c.order_of_pairs.ensures.valid c.order_of_pairs.ensures.sums c.order_of_pairs.ensures.known
@@ -35,13 +40,13 @@ returns-in_err-arcs c =
     let p = err_from_is_err_and c.from_residual-in_err-arcs.result c.from_residual-in_err-arcs.ensures.1 in
     rw (p.1, p.2)
     (unless_more (is_shortage c.in_err-arcs.field-0.0)
-    (λ e. net_refused c.args.bytes.now c.without_mark-text.result.now c.args.graph is.known c.in_err-arcs.field-0.0
-    c.without_mark-text.ensures (sym c.is_marked.ensures ∙ c.if-is_marked.false) is.is
+    (λ e. net_refused c.args.bytes.items c.without_mark-text.result.now c.args.graph is.known c.in_err-arcs.field-0.0
+    (text (goal.at.returns-in_err-arcs c).In_ok-table) (sym c.is_marked.ensures ∙ c.if-is_marked.false) is.is
     (same (goal.at.returns-in_err-arcs c).After-as_slice-2 is ∙ e))
     c.in_err-arcs.ensures)
 
 -- the arcs make a network
-made : (c : In_ok-arcs) → (is : IsRead c.args.bytes.now c.args.graph c.in_ok-table.table)
+made : (c : In_ok-arcs) → (is : IsRead c.args.bytes.items c.args.graph c.in_ok-table.table)
     → timed is.known c.args.graph.arcs ≡ timed (contents_in c.in_ok-table.table) c.as_slice-2.result.now
     → AreArcs c.args.graph is.known c.in_ok-arcs.arcs.items
 made c is moved =
@@ -62,7 +67,7 @@ build-requires-clause-valid c =
 pub returns : goal.returns
 returns c =
     let is = read (goal.at.returns c).In_ok-table in
-    net_read c.args.bytes.now c.without_mark-text.result.now c.args.graph is.known c.in_ok-arcs.arcs.items
-    c.without_mark-text.ensures (sym c.is_marked.ensures ∙ c.if-is_marked.false) is.is
+    net_read c.args.bytes.items c.without_mark-text.result.now c.args.graph is.known c.in_ok-arcs.arcs.items
+    (text (goal.at.returns c).In_ok-table) (sym c.is_marked.ensures ∙ c.if-is_marked.false) is.is
     (same (goal.at.returns c).After-as_slice-2 is ∙ c.in_ok-arcs.ensures)
     ∙ (rw (← is.holds.scale) (ap (λ net. Ok net) (sym c.in_ok-build.ensures.value)))
