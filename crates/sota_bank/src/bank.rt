@@ -16,7 +16,7 @@ use std::sync::ledger::Ledger;
 /// Where a row lies: its first place, how many of its places are written, and how many it has.
 #[derive(Clone, Copy)]
 struct Extent {
-    start: usize,
+    start: u32,
     len: u32,
     cap: u32,
 }
@@ -46,19 +46,19 @@ impl<T: Copy> Model for RowBank<T> {
 }
 
 /// One extent a capacity, each empty, one after another, and how many places they take together.
-fn empty_extents(alloc: Global, caps: &[u32]) -> Result<(Vec<Extent>, usize), NoMemory>
+fn empty_extents(alloc: Global, caps: &[u32]) -> Result<(Vec<Extent>, u32), NoMemory>
     requires { sum caps.now ≤ 2 ^ 31 }
     ensures { IfOk result (λ r. AreEmpty r.0.items caps.now × (r.1 ≡ sum caps.now)) }
 {
     let mut extents = Vec::with_capacity(alloc, caps.len())?;
-    let mut start: usize = 0;
+    let mut start: u32 = 0;
     for cap in caps {
         extents.push(Extent {
             start,
             len: 0,
             cap: *cap,
         })?;
-        start += *cap as usize;
+        start += *cap;
     }
     Ok((extents, start))
 }
@@ -72,7 +72,7 @@ impl<T: Copy> RowBank<T> {
         ensures { IfOk result (λ bank. bank ≡ empty_rows caps.now) }
     {
         let (extents, places) = empty_extents(alloc, caps)?;
-        let region = Region::new(alloc, places)?;
+        let region = Region::new(alloc, places as usize)?;
         Ok(RowBank { extents, region })
     }
 
@@ -85,9 +85,12 @@ impl<T: Copy> RowBank<T> {
     {
         let from = other.extents[row];
         let to = self.extents[row];
-        other
-            .region
-            .move_run(from.start, &mut self.region, to.start, from.len as usize);
+        other.region.move_run(
+            from.start as usize,
+            &mut self.region,
+            to.start as usize,
+            from.len as usize,
+        );
         other.extents[row] = Extent { len: 0, ..from };
         self.extents[row] = Extent {
             len: from.len,
@@ -145,7 +148,8 @@ impl<T: Copy> RowBank<T> {
         ensures { result.now ≡ list_at self.now row }
     {
         let extent = self.extents[row];
-        self.region.slice(extent.start, extent.len as usize)
+        self.region
+            .slice(extent.start as usize, extent.len as usize)
     }
 
     /// The part of the row's list from the index `from` up to `to`, for writing.
@@ -160,8 +164,7 @@ impl<T: Copy> RowBank<T> {
             → overwritten list from to ws ≡ take from list ++ (ws ++ drop to list) }
     {
         let extent = self.extents[row];
-        self.region
-            .slice_mut(extent.start + from as usize, (to - from) as usize)
+        self.region.slice_mut(extent.start as usize + from as usize, (to - from) as usize)
     }
 
     /// Appends an entry to the row, and counts the push.
@@ -172,7 +175,8 @@ impl<T: Copy> RowBank<T> {
         ensures count { pushes.new ≡ pushes.old + 1 }
     {
         let extent = self.extents[row];
-        self.region.write(extent.start + extent.len as usize, value);
+        self.region
+            .write(extent.start as usize + extent.len as usize, value);
         self.extents[row] = Extent {
             len: extent.len + 1,
             ..extent
@@ -189,7 +193,7 @@ impl<T: Copy> RowBank<T> {
     {
         let extent = self.extents[row];
         self.region
-            .write_all(extent.start + extent.len as usize, values);
+            .write_all(extent.start as usize + extent.len as usize, values);
         self.extents[row] = Extent {
             len: extent.len + values.len() as u32,
             ..extent
