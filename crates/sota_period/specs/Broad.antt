@@ -94,3 +94,9 @@ pub record AreSummers {Z : Type 0} (state : Z → SummerState) (rows : List (Row
   pub count : length broad ≡ length net.arcs
   pub fed : AllFedRows rows net (state_at state broad)
   pub ready : AllReady net from places (state_at state broad)
+
+-- summers that can make the sums at the budgets from one on still can, in this room
+abbrev pub StillSummers : {Z : Type 0} → (Z → SummerState) → List (Row ℕ) → Net → ℕ → SummerList Z
+    → ℕ → SummerList Z → Type 0
+StillSummers state rows net before old after new = (t : ℕ)
+    → AreSummers state rows net t before old → AreSummers state rows net t after new

@@ -14,6 +14,7 @@ use Rattle.sota_period.specs.Periods.{TimedNet, ArePeriods, first_net, timed_net
 use Rattle.sota_period.specs.Needs.{AreTimedNeeds, AreVisited, node_need}
 use Rattle.sota_period.specs.Grid.{timed_value}
 use Rattle.sota_period.specs.declared.ask.Ask.{Ask}
+use Rattle.sota_period.specs.declared.ask.Block.{Block}
 
 -- the row of node i: its values at budgets from 0 on
 abbrev pub timed_row : List (Row ℕ) → ℕ → List ℕ
@@ -82,11 +83,12 @@ PeriodHolds ask net from to = (t : ℕ) → from ≤ t → t < to → (asked_net
 abbrev pub TakesAtLeast : ℕ → List Arc → Type 0
 TakesAtLeast ticks arcs = All (λ arc. is_closed arc.time ≡ false → ticks ≤ least_tick arc.time) arcs
 
--- a block of so many budgets in a row, at which this is the network and no value reads another,
+-- a block of at most 64 budgets in a row, at which this is the network and no value reads another,
 -- since each open arc takes at least as many ticks
-pub record IsBlock (ask : Ask) (net : Net) (from count : ℕ) : Type 0 where
-  pub asked : IsAsk ask
-  pub some : 1 ≤ count
-  pub limit : from + count ≤ ask.budget + 1
-  pub holds : PeriodHolds ask net from (from + count)
-  pub takes : TakesAtLeast count net.arcs
+pub record IsBlock (block : Block) : Type 0 where
+  pub asked : IsAsk block.ask.now
+  pub some : 1 ≤ block.count
+  pub few : block.count ≤ 64
+  pub limit : block.from + block.count ≤ block.ask.now.budget + 1
+  pub holds : PeriodHolds block.ask.now block.network.now block.from (block.from + block.count)
+  pub takes : TakesAtLeast block.count block.network.now.arcs

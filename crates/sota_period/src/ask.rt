@@ -1,5 +1,6 @@
-// What is asked.
+// What is asked, and in which blocks it is answered.
 use crate::timed::Timed;
+use sota_network::Network;
 use sota_sums::Bound;
 use sota_units::NodeId;
 
@@ -15,4 +16,13 @@ pub(crate) struct Ask<'a> {
     pub(crate) bound: Bound,
     pub(crate) needs: &'a [u32],
     pub(crate) visited: &'a [NodeId],
+}
+
+/// So many budgets in a row of an ask, from `from` on, at which this is the network.
+#[derive(Clone, Copy)]
+pub(crate) struct Block<'a, 'b> {
+    pub(crate) ask: &'b Ask<'a>,
+    pub(crate) network: &'a Network,
+    pub(crate) from: usize,
+    pub(crate) count: usize,
 }

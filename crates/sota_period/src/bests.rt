@@ -6,9 +6,10 @@ ghost use Rattle.sota_network.specs.Network.{IsNode, arc_at};
 ghost use Rattle.sota_network.specs.declared.network.Arc.{Arc};
 ghost use Rattle.sota_network.specs.Grid.{plain_sum, best_sum, choice_of};
 ghost use Rattle.sota_period.specs.Rows.{row_value};
-ghost use Rattle.sota_period.specs.Broad.{AllRead, AreSummers, IsRead};
+ghost use Rattle.sota_period.specs.Broad.{AllRead, AreSummers, IsRead, StillSummers};
 
 use crate::broad::{feed_arc, summer_of};
+use crate::part::Part;
 use crate::table::row_of;
 use sota_bank::RowBank;
 use sota_fill::broad_sums;
@@ -55,9 +56,8 @@ fn sums_of<Z: Summer, M: Ledger>(
         → x < length into.old → slice_index into.new x
         ≡ plain_sum arc (row_value rows.now) (from + x) }
     ensures room { length into.new ≡ length into.old }
-    ensures summers { (t : ℕ)
-        → AreSummers Z.state rows.now network.now t workspace.old broad.old
-        → AreSummers Z.state rows.now network.now t workspace.new broad.new }
+    ensures summers { StillSummers Z.state rows.now network.now workspace.old broad.old
+        workspace.new broad.new }
 {
     feed_arc(network, number, rows, broad, workspace, products);
     let arc = network.numbered(number);
@@ -70,54 +70,52 @@ fn sums_of<Z: Summer, M: Ledger>(
     }
 }
 
-/// Each best sum becomes the greater of itself and that of one arc more.
-fn raise(sums: &[u128], bests: &mut [u128])
-    requires { length sums.now ≡ length bests.old }
-    ensures sums { (x : ℕ) → x < length bests.old
+/// Each of the first best sums becomes the greater of itself and that of one arc more.
+fn raise(sums: &[u128], bests: &mut [u128], count: usize)
+    requires { (count ≤ length sums.now) × (count ≤ length bests.old) }
+    ensures sums { (x : ℕ) → x < count
         → slice_index bests.new x ≡ max (slice_index bests.old x) (slice_index sums.now x) }
     ensures room { length bests.new ≡ length bests.old }
 {
-    for place in 0..bests.len() {
-        if bests[place] < sums[place] {
-            bests[place] = sums[place];
-        }
+    for place in 0..count {
+        bests[place] = bests[place].max(sums[place]);
     }
 }
 
-/// The greatest sums of the arcs that leave a node, at budgets in a row from `from` on, by their
-/// summers and the rows of their heads.
+/// The greatest sums of the arcs that leave a node, at so many budgets in a row from `from` on, by
+/// their summers and the rows of their heads.
 pub(crate) fn find_bests<Z: Summer, M: Ledger>(
     network: &Network,
     node: NodeId,
     rows: &RowBank<Grain>,
     broad: &mut [Option<Box<Z>>],
     from: usize,
-    sums: &mut [u128],
-    bests: &mut [u128],
+    count: usize,
+    part: &mut Part,
     workspace: &mut Workspace,
     products: &mut Steps<M>,
 )
     requires node { IsNode network.now node }
     requires rows { network.now.nodes ≤ length rows.now }
-    requires limit { from + length bests.old ≤ BUDGET_LIMIT + 1 }
-    requires sums { length sums.old ≡ length bests.old }
+    requires limit { from + count ≤ BUDGET_LIMIT + 1 }
+    requires count { count ≤ 64 }
     requires summers { AreSummers Z.state rows.now network.now from workspace.old broad.old }
-    requires read { AllRead rows.now (from + length bests.old) network.now node }
-    ensures bests { (x : ℕ) → x < length bests.old → slice_index bests.new x
+    requires read { AllRead rows.now (from + count) network.now node }
+    ensures bests { (x : ℕ) → x < count → slice_index part.new.bests x
         ≡ best_sum network.now (row_value rows.now) node (from + x) }
-    ensures room { length bests.new ≡ length bests.old }
-    ensures sums { length sums.new ≡ length sums.old }
-    ensures summers { (t : ℕ)
-        → AreSummers Z.state rows.now network.now t workspace.old broad.old
-        → AreSummers Z.state rows.now network.now t workspace.new broad.new }
+    ensures room { length part.new.bests ≡ 64 }
+    ensures grains { part.new.grains ≡ part.old.grains }
+    ensures summers { StillSummers Z.state rows.now network.now workspace.old broad.old
+        workspace.new broad.new }
 {
     arcs_one_by_one();
-    bests.fill(0);
+    part.clear(count);
     for number in network.leaving(node) {
+        let sums = &mut part.sums[..count];
         sums_of(
             network, *number, rows, broad, from, sums, workspace, products,
         );
-        raise(sums, bests);
+        raise(&part.sums, &mut part.bests, count);
     }
 }
 

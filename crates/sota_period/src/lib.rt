@@ -9,6 +9,7 @@ mod cells;
 mod fault;
 pub mod laws;
 mod needs;
+mod part;
 mod plan;
 mod rows;
 mod table;

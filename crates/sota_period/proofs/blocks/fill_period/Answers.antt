@@ -1,19 +1,11 @@
-use Rattle.std.proofs.Common.{ℕ, ◌≡◌, ◌+◌, ◌≤◌, ◌++◌, length, map, take, drop, refl, sym, ◌∙◌, subst, arith, List}
-use Rattle.std.proofs.lemmas.List.{length-take-le, length-append, length-drop}
+use Rattle.std.proofs.Common.{ℕ, ◌≡◌, ◌+◌, map, sym, ◌∙◌, subst, arith}
 use Rattle.sota_network.specs.Network.{Net, IsArc}
 use Rattle.sota_period.specs.declared.ask.Ask.{Ask}
-use Rattle.sota_period.specs.Rows.{AreRows, asked_net}
+use Rattle.sota_period.specs.Rows.{asked_net}
 use Rattle.sota_period.specs.Broad.{SummerList, AreSummers, summer_state, first_summer_state}
 use Rattle.sota_period.proofs.Feeding.{start-summers, later-summers}
 use Rattle.sota_period.proofs.Filling.{valid-held, nodes-held}
-use Rattle.sota_period.proofs.blocks.fill_period.Given as given
 use Rattle.sota_period.proofs.blocks.fill_period.Goals as goal
-use Rattle.sota_period.proofs.blocks.fill_period.Goals.{After-min-count}
-
--- an array of which the first places were written
-written-long : {X : Type 0} (count room : ℕ) (old new : List X) → length old ≡ room → count ≤ room → length new ≡ length (take count old) → length (new ++ drop count old) ≡ room
-written-long count room old new full less same =
-    omega (arith, length-append new (drop count old), length-drop count old, length-take-le count old (omega (arith, full, less)), same, full)
 
 pub make_summers-requires-clause-nodes : goal.make_summers-requires-clause-nodes
 make_summers-requires-clause-nodes g c =
@@ -28,9 +20,6 @@ loop-at-init g c =
     record {
       low = omega arith;
       high = omega (arith, c.requires.some);
-      sums = refl;
-      bests = refl;
-      grains = refl;
       rows = c.requires.rows;
       summers = subst (λ (xs : SummerList g.row.Z.Denot). AreSummers g.Z.Summer.state c.args.rows.now net c.args.from c.in_ok-workspace.workspace xs) (sym c.as_mut_slice-broad.ensures.value)
           (subst (λ (places : ℕ). AreSummers g.Z.Summer.state c.args.rows.now net c.args.from places c.in_ok-summers.summers.items) (sym c.in_ok-workspace.ensures)
@@ -40,32 +29,20 @@ loop-at-init g c =
           c.requires.rows.room arc.head v.head.0 (omega (arith, v.head.1, nodes-held c.network_laws.ensures ask c.requires.ask net c.args.from here)))));
     }
 
--- there is a place for each budget of the block
-block-long : (g : given.Over) (c : After-min-count g) → length (take c.min-count.result c.loop-at.bests) ≡ c.min-count.result
-block-long g c = length-take-le c.min-count.result c.loop-at.bests (omega (arith, c.loop-at.invariant.bests, c.min-count.ensures, c.block_of-block.ensures.within.1))
-
 pub fill_block-requires-clause-block : goal.fill_block-requires-clause-block
-fill_block-requires-clause-block g c =
-    let long = block-long g (goal.at.fill_block-requires-clause-block g c).After-min-count in
-    record {
-      asked = c.requires.ask;
-      some = omega (arith, long, c.min-count.ensures, c.block_of-block.ensures.within.0, c.loop-at-test.true);
-      limit = omega (arith, long, c.min-count.ensures, c.loop-at-test.true, c.requires.limit);
-      holds = λ t low high. c.requires.holds t (omega (arith, low, c.loop-at.invariant.low)) (omega (arith, high, long, c.min-count.ensures, c.loop-at-test.true));
-      takes = λ k d less opened. omega (arith, c.block_of-block.ensures.takes k d less opened, long, c.min-count.ensures);
-    }
+fill_block-requires-clause-block g c = record {
+  asked = c.requires.ask;
+  some = omega (arith, c.min-count.ensures, c.block_of-most.ensures.within.0, c.loop-at-test.true);
+  few = omega (arith, c.min-count.ensures, c.block_of-most.ensures.within.1);
+  limit = omega (arith, c.min-count.ensures, c.loop-at-test.true, c.requires.limit);
+  holds = λ t low high. c.requires.holds t (omega (arith, low, c.loop-at.invariant.low)) (omega (arith, high, c.min-count.ensures, c.loop-at-test.true));
+  takes = λ k d less opened. omega (arith, c.block_of-most.ensures.takes k d less opened, c.min-count.ensures);
+}
 
 pub loop-at-preserved : goal.loop-at-preserved
-loop-at-preserved g c =
-    let ask : Ask = c.args.ask.now in
-    let few : c.min-count.result ≤ 64 = omega (arith, c.min-count.ensures, c.block_of-block.ensures.within.1) in
-    let long = block-long g (goal.at.loop-at-preserved g c).After-min-count in
-    record {
-      low = omega (arith, c.loop-at.invariant.low);
-      high = omega (arith, c.min-count.ensures, c.loop-at-test.true);
-      sums = written-long c.min-count.result 64 c.loop-at.sums c.fill_block.new.sums c.loop-at.invariant.sums few c.fill_block.ensures.sums;
-      bests = written-long c.min-count.result 64 c.loop-at.bests c.fill_block.new.bests c.loop-at.invariant.bests few c.fill_block.ensures.bests;
-      grains = written-long c.min-count.result 64 c.loop-at.grains c.fill_block.new.grains c.loop-at.invariant.grains few c.fill_block.ensures.grains;
-      rows = subst (λ (n : ℕ). AreRows ask (c.loop-at.at + n) c.fill_block.new.rows) long c.fill_block.ensures.rows;
-      summers = later-summers (c.loop-at.at + c.min-count.result) (omega arith) c.fill_block.ensures.summers;
-    }
+loop-at-preserved g c = record {
+  low = omega (arith, c.loop-at.invariant.low);
+  high = omega (arith, c.min-count.ensures, c.loop-at-test.true);
+  rows = c.fill_block.ensures.rows;
+  summers = later-summers (c.loop-at.at + c.min-count.result) (omega arith) c.fill_block.ensures.summers;
+}

@@ -1,4 +1,4 @@
-use Rattle.std.proofs.Common.{◌≡◌, ◌-◌, ◌≤◌, length}
+use Rattle.std.proofs.Common.{◌-◌, ◌≤◌}
 use Rattle.sota_period.specs.Rows.{AreRows}
 use Rattle.sota_period.specs.Broad.{AreSummers}
 use Rattle.sota_period.proofs.blocks.fill_period.Given as goal
@@ -7,9 +7,6 @@ abbrev pub invariant-loop-at : goal.invariant-loop-at
 invariant-loop-at g l = record {
   low : l.from ≤ l.at;
   high : l.at ≤ l.to;
-  sums : length l.sums ≡ 64;
-  bests : length l.bests ≡ 64;
-  grains : length l.grains ≡ 64;
   rows : AreRows l.ask l.at l.rows;
   summers : AreSummers g.Z.Summer.state l.rows l.network l.at l.workspace l.broad;
 }
