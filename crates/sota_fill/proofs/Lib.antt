@@ -1,3 +1,4 @@
+pub mod ArcPlaced
 pub mod Below
 pub mod FedTo
 pub mod Feeding

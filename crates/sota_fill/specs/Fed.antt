@@ -1,7 +1,6 @@
 -- What the summers of an arc were fed.
 use Rattle.std.specs.Prelude.{ℕ, ◌≡◌, ◌-◌, ◌+◌, ◌<◌, ◌≤◌, false, List, length, slice_index}
-use Rattle.std.specs.Prelude.{slice_index_or, Option, None, Some, Box}
-use Rattle.std.specs.declared.alloc.Global.{Global}
+use Rattle.std.specs.Prelude.{slice_index_or, Option, None, Some}
 use Rattle.sota_hist.specs.Time.{is_closed, least_tick}
 use Rattle.sota_network.specs.Network.{Net, IsNode, arc_at}
 use Rattle.sota_network.specs.Grid.{lo, hi}
@@ -40,14 +39,10 @@ pub record AreFed {Z : Type 0} (state : Z → SummerState) (net : Net) (dest : �
 
 -- the summers that stand for each arc by its number, where it has them
 abbrev pub SummersList : Type 0 → Type 0
-SummersList Z = List (Option (Box (Summers Z) Global))
-
-abbrev pub unboxed : {Z : Type 0} → Option (Box (Summers Z) Global) → Option (Summers Z)
-unboxed None = None
-unboxed (Some two) = Some two.value
+SummersList Z = List (Option (Summers Z))
 
 abbrev pub summers_at : {Z : Type 0} → SummersList Z → ℕ → Option (Summers Z)
-summers_at broad e = unboxed (slice_index_or broad (e - 1) None)
+summers_at broad e = slice_index_or broad (e - 1) None
 
 -- those of the arcs that leave node i
 abbrev pub AllFed : {Z : Type 0} → (Z → SummerState) → Net → ℕ → ℕ → ℕ → ℕ

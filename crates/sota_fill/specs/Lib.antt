@@ -1,3 +1,5 @@
+pub mod ArcLends
+pub mod ArcPlaces
 pub mod Beaten
 pub mod Bounds
 pub mod Certain

@@ -12,8 +12,9 @@ ghost use Rattle.sota_fill.specs.Bounds.{bound_row, value_in};
 ghost use Rattle.sota_fill.specs.Fed.{AllFed, IsTarget};
 ghost use Rattle.sota_fill.specs.Fills.{CanSum, ReadsGrid};
 
+use crate::arc_map::ArcMap;
 use crate::beaten::{is_beaten, is_far_below};
-use crate::broad::{Summers, broad_sums, summers_of};
+use crate::broad::{Summers, broad_sums};
 use crate::laws::filling_laws;
 use crate::part::{Part, choose, raise};
 use crate::target::Target;
@@ -54,7 +55,7 @@ fn row_sums(tables: &Tables, dest: NodeId, arc: &Arc, bound: Bound, from: u32, i
 fn sums_of<Z: Summer>(
     target: &Target,
     tables: &Tables,
-    broad: &[Option<Box<Summers<Z>>>],
+    broad: &ArcMap<Summers<Z>>,
     number: ArcId,
     bound: Bound,
     from: u32,
@@ -68,7 +69,7 @@ fn sums_of<Z: Summer>(
     ensures room { length into.new ≡ length into.old }
 {
     let arc = target.network.numbered(number);
-    match summers_of(broad, number) {
+    match broad.get(number) {
         Some(two) => {
             let base = target.base(arc.head);
             broad_sums(two.of(bound), arc.time.least().get(), base, from, into);
@@ -81,7 +82,7 @@ fn sums_of<Z: Summer>(
 fn add_lower<Z: Summer>(
     target: &Target,
     tables: &Tables,
-    broad: &[Option<Box<Summers<Z>>>],
+    broad: &ArcMap<Summers<Z>>,
     number: ArcId,
     from: u32,
     count: usize,
@@ -117,7 +118,7 @@ fn add_lower<Z: Summer>(
 fn add_upper<Z: Summer>(
     target: &Target,
     tables: &Tables,
-    broad: &[Option<Box<Summers<Z>>>],
+    broad: &ArcMap<Summers<Z>>,
     number: ArcId,
     from: u32,
     count: usize,
@@ -141,7 +142,7 @@ fn add_upper<Z: Summer>(
 fn add_arc<Z: Summer>(
     target: &Target,
     tables: &Tables,
-    broad: &[Option<Box<Summers<Z>>>],
+    broad: &ArcMap<Summers<Z>>,
     number: ArcId,
     from: u32,
     count: usize,
@@ -179,7 +180,7 @@ fn add_arc<Z: Summer>(
 pub(crate) fn find_bests<Z: Summer>(
     target: &Target,
     tables: &Tables,
-    broad: &[Option<Box<Summers<Z>>>],
+    broad: &ArcMap<Summers<Z>>,
     node: NodeId,
     from: u32,
     count: usize,

@@ -3,13 +3,11 @@ ghost use Rattle.std.specs.Prelude.{ℕ, ◌≡◌, ◌+◌, ◌-◌, ◌<◌, �
 ghost use Rattle.sota_hist.specs.Time.{IsTime, least_tick};
 ghost use Rattle.sota_network.specs.Grid.{weighed};
 ghost use Rattle.sota_kept.specs.Ticks.{END_LIMIT};
-ghost use Rattle.std.specs.Option.{option_copied};
 ghost use Rattle.sota_fill.specs.Bounds.{summer_in};
-ghost use Rattle.sota_fill.specs.Fed.{IsFed, summers_at};
+ghost use Rattle.sota_fill.specs.Fed.{IsFed};
 
 use sota_online::Summer;
 use sota_sums::Bound;
-use sota_units::ArcId;
 
 /// The two summers of a broad arc. One is fed the lower values at its head, the other the upper
 /// ones, both from the least time of the head on.
@@ -28,20 +26,6 @@ impl<Z: Summer> Summers<Z> {
             Bound::Lower => &self.lower,
             Bound::Upper => &self.upper,
         }
-    }
-}
-
-/// The summers of an arc, where it has them.
-pub(crate) fn summers_of<'a, Z: Summer>(
-    broad: &'a [Option<Box<Summers<Z>>>],
-    arc: ArcId,
-) -> Option<&'a Summers<Z>>
-    requires { (1 ≤ arc) × (arc ≤ length broad.now) }
-    ensures { option_copied result ≡ summers_at broad.now arc }
-{
-    match &broad[arc.get() as usize - 1] {
-        Some(two) => Some(two),
-        None => None,
     }
 }
 

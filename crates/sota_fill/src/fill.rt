@@ -8,6 +8,7 @@ ghost use Rattle.sota_fill.specs.Certain.{EndsCertain};
 ghost use Rattle.sota_fill.specs.Fed.{AllFed, IsTarget};
 ghost use Rattle.sota_fill.specs.Fills.{IsLonger, IsUnfilled};
 
+use crate::arc_map::ArcMap;
 use crate::beaten::last_value;
 use crate::bests::find_bests;
 use crate::broad::Summers;
@@ -89,7 +90,7 @@ fn push_certain<P: Ledger>(
 fn fill_part<Z: Summer, P: Ledger>(
     tables: &mut Tables,
     target: &Target,
-    broad: &[Option<Box<Summers<Z>>>],
+    broad: &ArcMap<Summers<Z>>,
     node: NodeId,
     from: u32,
     count: usize,
@@ -125,7 +126,7 @@ fn fill_part<Z: Summer, P: Ledger>(
 pub fn fill_extent<Z: Summer, P: Ledger>(
     tables: &mut Tables,
     target: &Target,
-    broad: &[Option<Box<Summers<Z>>>],
+    broad: &ArcMap<Summers<Z>>,
     node: NodeId,
     from: u32,
     to: u32,

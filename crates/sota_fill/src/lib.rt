@@ -1,6 +1,7 @@
 //! Fills the entries of a node at budgets in a row, by the sums of the arcs that leave it.
 #![tactic(auto)]
 
+mod arc_map;
 mod beaten;
 mod bests;
 mod broad;
@@ -11,6 +12,7 @@ pub mod laws;
 mod part;
 mod target;
 
+pub use arc_map::ArcMap;
 pub use broad::{Summers, broad_sums};
 pub use feed::{feed_ones, feed_row};
 pub use fill::fill_extent;

@@ -1,7 +1,5 @@
 -- Values that are fed to the summers of an arc.
-use Rattle.std.proofs.Common.{ℕ, zero, suc, ◌≡◌, ◌+◌, ◌-◌, ◌<◌, ◌≤◌, max, Option, None, Some, List, [], ◌∷◌, length, get_or, refl, sym, ◌∙◌, ap, subst, arith, ⊎_elim}
-use Rattle.std.specs.Prelude.{Box}
-use Rattle.std.specs.declared.alloc.Global.{Global}
+use Rattle.std.proofs.Common.{ℕ, zero, suc, ◌≡◌, ◌+◌, ◌-◌, ◌<◌, ◌≤◌, max, None, Some, List, [], ◌∷◌, length, get_or, refl, sym, ◌∙◌, ap, subst, arith, ⊎_elim}
 use Rattle.std.proofs.lemmas.Bool.{le-ltb, ne_eqb, eq-eqb}
 use Rattle.std.proofs.Math.ListN.{set}
 use Rattle.std.proofs.lemmas.List.{get_or-set_same}
@@ -14,7 +12,7 @@ use Rattle.sota_kept.specs.Ticks.{least_to}
 use Rattle.sota_kept.specs.NodeTables.{NodeTable, IsReadyAt, lower_in, upper_in}
 use Rattle.sota_online.specs.Summer.{SummerState, kernel_of}
 use Rattle.sota_fill.specs.declared.broad.Summers.{Summers}
-use Rattle.sota_fill.specs.Fed.{IsFed, IsSameSummer, SummersList, unboxed, summers_at}
+use Rattle.sota_fill.specs.Fed.{IsFed, IsSameSummer, SummersList, summers_at}
 use Rattle.sota_fill.specs.Fills.{ReadsAs}
 use Rattle.sota_plan.specs.Summed.{IsSummed, values_below}
 
@@ -51,19 +49,13 @@ base-low net dest i s is =
     ⊎_elim (λ (low : s.base ≤ least_to net dest i). low) (λ (low : s.front ≤ least_to net dest i). let same : s.base ≡ least_to net dest i = is.based low in omega arith) is.settled.kept.least
 
 -- ---- the summers of an arc, by its number
-pub summers-read : {Z : Type 0} (broad : SummersList Z) (e i n : ℕ) (d : Option (Box (Summers Z) Global)) (two : Box (Summers Z) Global) → i ≡ e → (1 ≤ e) × (e ≤ n) → length broad ≡ n → get_or broad (i - 1) d ≡ Some two → summers_at broad e ≡ Some two.value
-summers-read {Z} broad e i n d two same number long is =
-    let at : get_or broad (e - 1) None ≡ Some two = ap (λ (n : ℕ). get_or broad (n - 1) None) (sym same) ∙ get_or-default broad (i - 1) None d (omega (arith, number.0, number.1)) ∙ is in
-    ap unboxed at
+pub summers-set : {Z : Type 0} (broad : SummersList Z) (e n : ℕ) (two : Summers Z) → (1 ≤ e) × (e ≤ n) → length broad ≡ n → summers_at (set broad (e - 1) (Some two)) e ≡ Some two
+summers-set {Z} broad e n two number long = get_or-set_same broad (e - 1) (Some two) None (omega (arith, number.0, number.1))
 
-pub summers-set : {Z : Type 0} (broad : SummersList Z) (e i n : ℕ) (two : Box (Summers Z) Global) → i ≡ e → (1 ≤ e) × (e ≤ n) → length broad ≡ n → summers_at (set broad (i - 1) (Some two)) e ≡ Some two.value
-summers-set {Z} broad e i n two same number long =
-    ap (λ (k : ℕ). summers_at (set broad (k - 1) (Some two)) e) same ∙ ap unboxed (get_or-set_same broad (e - 1) (Some two) None (omega (arith, number.0, number.1)))
-
--- there is room to work for the kernel of a summer that was lent
-pub fits-lent : (lent s : SummerState) (total places : ℕ) (time : List (ℕ × ℕ)) (base : ℕ) (f : ℕ → ℕ) → lent ≡ s → IsFed s time base f → length s.values + s.room ≡ total → length (kernel_of total time) ≤ places → length lent.kernel ≤ places
-fits-lent lent s total places time base f at fed is fits =
-    let kernel : lent.kernel ≡ kernel_of total time = ap (λ (x : SummerState). x.kernel) at ∙ fed.kernel ∙ ap (λ (n : ℕ). kernel_of n time) is in
+-- there is room to work for the kernel of a summer
+pub fits-fed : (s : SummerState) (total places : ℕ) (time : List (ℕ × ℕ)) (base : ℕ) (f : ℕ → ℕ) → IsFed s time base f → length s.values + s.room ≡ total → length (kernel_of total time) ≤ places → length s.kernel ≤ places
+fits-fed s total places time base f fed is fits =
+    let kernel : s.kernel ≡ kernel_of total time = fed.kernel ∙ ap (λ (n : ℕ). kernel_of n time) is in
     rw kernel fits
 
 -- what feeding both does

@@ -1,7 +1,5 @@
 -- The summers of arcs, extent by extent.
 use Rattle.std.proofs.Common.{ℕ, zero, suc, ◌≡◌, ◌≢◌, ◌+◌, ◌-◌, ◌<◌, ◌≤◌, ◌⊎◌, inl, inr, ◌==◌, ◌&&◌, nat_lt, nat_le, Bool, true, false, List, [], ◌∷◌, map, length, get_or, if◌then◌else◌, Option, None, Some, refl, sym, ◌∙◌, ap, subst, arith, ⊎_elim}
-use Rattle.std.specs.Prelude.{Box}
-use Rattle.std.specs.declared.alloc.Global.{Global}
 use Rattle.std.specs.List.{All, Contains}
 use Rattle.std.proofs.lemmas.Bool.{cases_eq, cases_lt, cases_Bool, eqb-true, lt-ltb, le-ltb, lt-leb, le-leb, true≢false}
 use Rattle.std.proofs.lemmas.Option.{none-some}
@@ -22,7 +20,7 @@ use Rattle.sota_kept.specs.Ticks.{END_LIMIT, up_to, least_to}
 use Rattle.sota_kept.specs.NodeTables.{NodeTable, IsGrownAt, known_end}
 use Rattle.sota_tables.specs.Views.{TablesView, table_at}
 use Rattle.sota_fill.specs.declared.broad.Summers.{Summers}
-use Rattle.sota_fill.specs.Fed.{IsFed, AllFed, SummersList, unboxed, summers_at}
+use Rattle.sota_fill.specs.Fed.{IsFed, AllFed, SummersList, summers_at}
 use Rattle.sota_fill.specs.Fills.{IsLonger}
 use Rattle.sota_plan.specs.Runs.{ArcSums, states_of, is_broad, most_fed, first_position, first_sums, values_fed, HasPlaces, HasSpent}
 use Rattle.sota_plan.specs.Summed.{IsSummed, SummedAs, CanFeed, AllCanFeed, values_below}
@@ -244,10 +242,6 @@ sums-get {Z} state broad e = map-default (states_of state) broad (e - 1) None
 some-is : {X : Type 0} (x y : X) → Some x ≡ Some y → x ≡ y
 some-is x y both = cc
 
-none-states : {Z : Type 0} (state : Z → SummerState) (o : Option (Box (Summers Z) Global)) → unboxed o ≡ None → states_of state o ≡ None
-none-states state None are = refl
-none-states state (Some two) are = absurd (none-some two.value (sym are))
-
 fed-none : (net : Net) (dest : ℕ) → TimeLaws net dest → (arc : Arc) (total start : ℕ) (s : SummerState) (f : ℕ → ℕ) → s ≡ unfed total start arc.time → ((u : ℕ) → u < least_to net dest arc.head → f u ≡ 0)
     → IsFed s arc.time (least_to net dest arc.head) f × (length s.values ≡ 0) × (length s.values + s.room ≡ total) × (s.start ≡ start)
 fed-none net dest laws arc total start s f is early =
@@ -262,22 +256,22 @@ fed-none net dest laws arc total start s f is early =
       refl,
     )
 
-first-found : {Z : Type 0} (state : Z → SummerState) (net : Net) (dest : ℕ) → TimeLaws net dest → (arc : Arc) (total start : ℕ) (o : Option (Box (Summers Z) Global)) → is_closed arc.time ≡ false
-    → states_of state o ≡ Some (record { lower = unfed total start arc.time; upper = unfed total start arc.time }) → SummedAs state net dest arc 0 total start (unboxed o)
+first-found : {Z : Type 0} (state : Z → SummerState) (net : Net) (dest : ℕ) → TimeLaws net dest → (arc : Arc) (total start : ℕ) (o : Option (Summers Z)) → is_closed arc.time ≡ false
+    → states_of state o ≡ Some (record { lower = unfed total start arc.time; upper = unfed total start arc.time }) → SummedAs state net dest arc 0 total start o
 first-found {Z} state net dest laws arc total start None opened are = absurd (none-some (record { lower = unfed total start arc.time; upper = unfed total start arc.time }) are)
 first-found {Z} state net dest laws arc total start (Some two) opened are =
-    let both : record { lower = state two.value.lower; upper = state two.value.upper } ≡ record { lower = unfed total start arc.time; upper = unfed total start arc.time } = some-is (record { lower = state two.value.lower; upper = state two.value.upper }) (record { lower = unfed total start arc.time; upper = unfed total start arc.time }) are in
-    let lower = fed-none net dest laws arc total start (state two.value.lower) (lo net dest arc.head) (ap (λ (s : ArcSums). s.lower) both) (λ u early. (zero-below net dest laws arc.head u early).0) in
-    let upper = fed-none net dest laws arc total start (state two.value.upper) (hi net dest arc.head) (ap (λ (s : ArcSums). s.upper) both) (λ u early. (zero-below net dest laws arc.head u early).1) in
+    let both : record { lower = state two.lower; upper = state two.upper } ≡ record { lower = unfed total start arc.time; upper = unfed total start arc.time } = some-is (record { lower = state two.lower; upper = state two.upper }) (record { lower = unfed total start arc.time; upper = unfed total start arc.time }) are in
+    let lower = fed-none net dest laws arc total start (state two.lower) (lo net dest arc.head) (ap (λ (s : ArcSums). s.lower) both) (λ u early. (zero-below net dest laws arc.head u early).0) in
+    let upper = fed-none net dest laws arc total start (state two.upper) (hi net dest arc.head) (ap (λ (s : ArcSums). s.upper) both) (λ u early. (zero-below net dest laws arc.head u early).1) in
     record {
-      two = two.value;
+      two = two;
       are = refl;
       is = record { open_arc = opened; lower = lower.0; upper = upper.0; lower_count = lower.1; upper_count = upper.1; lower_total = lower.2; upper_total = upper.2; lower_start = lower.3; upper_start = upper.3 };
     }
 
-none-found : {Z : Type 0} (state : Z → SummerState) (o : Option (Box (Summers Z) Global)) → states_of state o ≡ None → unboxed o ≡ None
+pub none-found : {Z : Type 0} (state : Z → SummerState) (o : Option (Summers Z)) → states_of state o ≡ None → o ≡ None
 none-found {Z} state None are = refl
-none-found {Z} state (Some two) are = absurd (none-some (record { lower = state two.value.lower; upper = state two.value.upper }) (sym are))
+none-found {Z} state (Some two) are = absurd (none-some (record { lower = state two.lower; upper = state two.upper }) (sym are))
 
 module _ {Z : Type 0} (state : Z → SummerState) (net : Net) (region : AskRegion) (laws : TimeLaws net region.dest) (is : IsRegion region net region.origin region.dest region.budget) (times : (i : ℕ) → IsNode net i → up_to END_LIMIT (time_at region.least i) ≡ least_to net region.dest i)
     (needs : (i : ℕ) → IsNode net i → get_or region.need (i - 1) 0 ≤ END_LIMIT) (at-dest : pairs_at net region.origin region.dest region.budget region.dest ≡ 0) where
@@ -403,12 +397,6 @@ module _ {Z : Type 0} (state : Z → SummerState) (net : Net) (region : AskRegio
       rw (le-ltb was end still, le-ltb was needed enough) refl)
       (cases_lt was needed)
 
-  two-states : (o : Option (Box (Summers Z) Global)) (two : Summers Z) → unboxed o ≡ Some two → states_of state o ≡ Some (record { lower = state two.lower; upper = state two.upper })
-  two-states None two are = absurd (none-some two are)
-  two-states (Some box) two are =
-      let same : box.value ≡ two = some-is box.value two are in
-      ap (λ (s : Summers Z). Some (record { lower = state s.lower; upper = state s.upper })) same
-
   pub spent-arc : (before next : TablesView) (broad : SummersList Z) → AllSummed state net region before next broad → ((i : ℕ) → IsNode net i → IsGrownAt (get_or region.need (i - 1) 0) (table_at before i) (table_at next i)) → ((i : ℕ) → IsNode net i → get_or region.need (i - 1) 0 ≤ known_end (table_at next i))
       → (e : ℕ) (arc : Arc) → arc_at net e ≡ Some arc → is_broad net region arc ≡ true → HasSpent net region before arc (get_or (map (states_of state) broad) (e - 1) None)
   spent-arc before next broad all grown met e arc at wide =
@@ -417,7 +405,7 @@ module _ {Z : Type 0} (state : Z → SummerState) (net : Net) (region : AskRegio
       let summed = subst (λ (n : ℕ). SummedAs state net region.dest arc n (most_fed net region arc) (first_position before region arc) (summers_at broad e)) count ((all e arc at).broad wide) in
       record {
         two = record { lower = state summed.two.lower; upper = state summed.two.upper };
-        are = sums-get state broad e ∙ two-states (get_or broad (e - 1) None) summed.two summed.are;
+        are = sums-get state broad e ∙ ap (states_of state) summed.are;
         lower = record {
           kernel = summed.is.lower.kernel ∙ ap (λ (n : ℕ). kernel_of n arc.time) summed.is.lower_total;
           count_is = summed.is.lower_count;
@@ -431,7 +419,7 @@ module _ {Z : Type 0} (state : Z → SummerState) (net : Net) (region : AskRegio
       }
 
   pub spent-none : (before next : TablesView) (broad : SummersList Z) → AllSummed state net region before next broad → (e : ℕ) (arc : Arc) → arc_at net e ≡ Some arc → is_broad net region arc ≡ false → get_or (map (states_of state) broad) (e - 1) None ≡ None
-  spent-none before next broad all e arc at thin = sums-get state broad e ∙ none-states state (get_or broad (e - 1) None) ((all e arc at).narrow thin)
+  spent-none before next broad all e arc at thin = sums-get state broad e ∙ ap (states_of state) ((all e arc at).narrow thin)
 
 -- a node's known end never falls
 pub grown-rise : (needed : ℕ) (old new : NodeTable) → IsGrownAt needed old new → known_end old ≤ known_end new

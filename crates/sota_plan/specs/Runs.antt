@@ -1,8 +1,7 @@
 -- What an ask is planned with, when it is ready to be filled, and what it has spent then.
 use Rattle.std.specs.Prelude.{ℕ, ◌≡◌, ◌+◌, ◌-◌, ◌<◌, ◌≤◌, ◌&&◌, nat_lt, Bool, true, false}
 use Rattle.std.specs.Prelude.{List, length, slice_index, slice_index_or}
-use Rattle.std.specs.Prelude.{Option, None, Some, Box, if◌then◌else◌}
-use Rattle.std.specs.declared.alloc.Global.{Global}
+use Rattle.std.specs.Prelude.{Option, None, Some, if◌then◌else◌}
 use Rattle.sota_units.specs.Limits.{BUDGET_LIMIT}
 use Rattle.sota_hist.specs.Time.{within, least_tick}
 use Rattle.sota_network.specs.Network.{Net, IsNet, IsNode, arc_at}
@@ -36,11 +35,9 @@ pub record RunView : Type 0 where
   pub places : ℕ
 
 -- the two summers that a run keeps, as their states
-abbrev pub states_of : {Z : Type 0} → (Z → SummerState) → Option (Box (Summers Z) Global)
-    → Option ArcSums
+abbrev pub states_of : {Z : Type 0} → (Z → SummerState) → Option (Summers Z) → Option ArcSums
 states_of state None = None
-states_of state (Some two) =
-    Some (record { lower = state two.value.lower; upper = state two.value.upper })
+states_of state (Some two) = Some (record { lower = state two.lower; upper = state two.upper })
 
 -- those that stand for arc e
 abbrev pub states_at : {Z : Type 0} → (Z → SummerState) → SummersList Z → ℕ → Option ArcSums

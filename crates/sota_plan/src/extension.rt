@@ -9,7 +9,7 @@ use crate::feeding::feed_extent;
 use crate::laws::region_laws;
 use crate::run::Run;
 use sota_bounds::AskRegion;
-use sota_fill::{Part, Summers, Target, fill_extent};
+use sota_fill::{ArcMap, Part, Summers, Target, fill_extent};
 use sota_kept::kept::{asks_end, tables_stay_right};
 use sota_network::Network;
 use sota_online::{Summer, Workspace};
@@ -26,7 +26,7 @@ fn extend_all<Z: Summer, M: Ledger, P: Ledger>(
     network: &Network,
     region: &AskRegion,
     order: &mut Order,
-    broad: &mut [Option<Box<Summers<Z>>>],
+    broad: &mut ArcMap<Summers<Z>>,
     workspace: &mut Workspace,
     products: &mut Steps<M>,
     pushes: &mut Steps<P>,
@@ -104,7 +104,7 @@ pub fn extend<Z: Summer, M: Ledger, P: Ledger>(
         network,
         run.region,
         &mut run.order,
-        run.broad.as_mut_slice(),
+        &mut run.broad,
         &mut run.workspace,
         products,
         pushes,

@@ -14,7 +14,7 @@ ghost use Rattle.sota_fill.specs.declared.broad.Summers.{Summers};
 ghost use Rattle.sota_plan.specs.Summed.{CanFeed, AllCanFeed, SummedAs, values_below};
 
 use sota_fill::laws::extents_read_the_grid;
-use sota_fill::{Summers, Target, feed_ones, feed_row};
+use sota_fill::{ArcMap, Summers, Target, feed_ones, feed_row};
 use sota_network::Arc;
 use sota_network::laws::numbers_of_arcs;
 use sota_online::{Summer, Workspace};
@@ -94,7 +94,7 @@ fn feed_both<Z: Summer, M: Ledger>(
 fn feed_arc<Z: Summer, M: Ledger>(
     target: &Target,
     tables: &Tables,
-    broad: &mut [Option<Box<Summers<Z>>>],
+    broad: &mut ArcMap<Summers<Z>>,
     number: ArcId,
     to: u32,
     workspace: &mut Workspace,
@@ -128,7 +128,7 @@ fn feed_arc<Z: Summer, M: Ledger>(
     ensures work { workspace.new ≡ workspace.old }
 {
     let arc = target.network.numbered(number);
-    if let Some(two) = &mut broad[number.get() as usize - 1] {
+    if let Some(two) = broad.get_mut(number) {
         let base = target.base(arc.head);
         feed_both(tables, target.dest, arc, two, base, to, workspace, products);
     }
@@ -138,7 +138,7 @@ fn feed_arc<Z: Summer, M: Ledger>(
 pub(crate) fn feed_extent<Z: Summer, M: Ledger>(
     target: &Target,
     tables: &Tables,
-    broad: &mut [Option<Box<Summers<Z>>>],
+    broad: &mut ArcMap<Summers<Z>>,
     node: NodeId,
     to: u32,
     workspace: &mut Workspace,

@@ -2,7 +2,7 @@
 ghost use Rattle.std.specs.Prelude.{◌≡◌};
 
 use sota_bounds::AskRegion;
-use sota_fill::Summers;
+use sota_fill::{ArcMap, Summers};
 use sota_online::{Summer, Workspace};
 use sota_order::Order;
 use std::marker::Model;
@@ -14,7 +14,7 @@ use std::marker::Model;
 pub struct Run<'a, Z: Summer> {
     pub(crate) region: &'a AskRegion,
     pub(crate) order: Order,
-    pub(crate) broad: Vec<Option<Box<Summers<Z>>>>,
+    pub(crate) broad: ArcMap<Summers<Z>>,
     pub(crate) workspace: Workspace,
 }
 
@@ -27,7 +27,7 @@ impl<'a, Z: Summer> Model for Run<'a, Z> {
     ghost view = { λ r. record {
       region = r.region.now;
       order = r.order;
-      sums = map (states_of Z.state) r.broad.items;
+      sums = map (states_of Z.state) r.broad;
       places = r.workspace;
     } };
 }

@@ -1,5 +1,5 @@
 // The summers of broad arcs.
-ghost use Rattle.std.specs.Prelude.{ℕ, ◌≡◌, ◌≢◌, ◌≤◌, length, replicate, IfOk, OnOk, false};
+ghost use Rattle.std.specs.Prelude.{ℕ, ◌≡◌, ◌≢◌, ◌≤◌, length, IfOk, OnOk, false};
 ghost use Rattle.std.specs.Prelude.{None, Some};
 ghost use Rattle.std.specs.List.{All};
 ghost use Rattle.sota_hist.specs.Time.{is_closed};
@@ -13,7 +13,7 @@ ghost use Rattle.sota_plan.specs.Runs.{FitsIn, kernel_places, states_of, states_
 ghost use Rattle.sota_plan.specs.Runs.{first_position, made_sums};
 
 use sota_bounds::AskRegion;
-use sota_fill::{Summers, base_of};
+use sota_fill::{ArcMap, Summers, base_of};
 use sota_network::laws::{arcs_by_number, numbers_of_arcs};
 use sota_network::{Arc, Network};
 use sota_online::Summer;
@@ -84,7 +84,7 @@ fn summers_of<Z: Summer>(
     tables: &Tables,
     region: &AskRegion,
     arc: &Arc,
-) -> Result<Option<Box<Summers<Z>>>, NoMemory>
+) -> Result<Option<Summers<Z>>, NoMemory>
     requires tail { HasNode tables.now arc.now.tail }
     requires fronts { length tables.now.fronts ≡ length region.now.need }
     requires nodes { length region.now.least ≡ length region.now.need }
@@ -100,11 +100,11 @@ fn summers_of<Z: Summer>(
     let start = position_of(tables, region, arc);
     let lower = Z::make(alloc, &arc.time, pairs, start)?;
     let upper = Z::make(alloc, &arc.time, pairs, start)?;
-    Ok(Some(Box::new(alloc, Summers { lower, upper })?))
+    Ok(Some(Summers { lower, upper }))
 }
 
 /// How long the kernel of two summers is, 0 where there are none.
-fn places_of<Z: Summer>(found: &Option<Box<Summers<Z>>>) -> u32
+fn places_of<Z: Summer>(found: &Option<Summers<Z>>) -> u32
     ensures { result ≡ kernel_places (states_of Z.state found.now) }
 {
     match found {
@@ -113,26 +113,15 @@ fn places_of<Z: Summer>(found: &Option<Box<Summers<Z>>>) -> u32
     }
 }
 
-/// As many arcs without summers.
-fn no_summers<Z: Summer>(alloc: Global, arcs: u32) -> Result<Vec<Option<Box<Summers<Z>>>>, NoMemory>
-    ensures { IfOk result (λ broad. broad.items ≡ replicate arcs None) }
-{
-    let mut broad = Vec::with_capacity(alloc, arcs as usize)?;
-    for _arc in 0..arcs {
-        broad.push(None)?;
-    }
-    Ok(broad)
-}
-
-/// Makes the summers of the arcs that leave a node: those of arc `e` stand at index `e - 1`. Gives
-/// how long the longest kernel of these is.
+/// Makes the summers of the arcs that leave a node, none of which has summers. Gives how long the
+/// longest kernel of these is.
 fn make_leaving<Z: Summer>(
     alloc: Global,
     network: &Network,
     tables: &Tables,
     region: &AskRegion,
     node: NodeId,
-    broad: &mut [Option<Box<Summers<Z>>>],
+    broad: &mut ArcMap<Summers<Z>>,
 ) -> Result<u32, NoMemory>
     requires node { IsNode network.now node }
     requires fronts { length tables.now.fronts ≡ network.now.nodes }
@@ -140,6 +129,8 @@ fn make_leaving<Z: Summer>(
     requires need { length region.now.need ≡ network.now.nodes }
     requires needs { All (λ need. need ≤ END_LIMIT) region.now.need }
     requires broad { length broad.old ≡ length network.now.arcs }
+    requires none { (e : ℕ) (arc : Arc) → arc_at network.now e ≡ Some arc → arc.tail ≡ node
+        → states_at Z.state broad.old e ≡ None }
     ensures sums { OnOk result ((e : ℕ) (arc : Arc) → arc_at network.now e ≡ Some arc
         → arc.tail ≡ node → states_at Z.state broad.new e ≡ made_sums tables.now region.now arc) }
     ensures others { OnOk result ((e : ℕ) (arc : Arc) → arc_at network.now e ≡ Some arc
@@ -154,39 +145,38 @@ fn make_leaving<Z: Summer>(
     for number in network.leaving(node) {
         let made = summers_of(alloc, tables, region, network.numbered(*number))?;
         places = places_of(&made).max(places);
-        broad[number.get() as usize - 1] = made;
+        broad.put(alloc, *number, made)?;
     }
     Ok(places)
 }
 
-/// The summers of all arcs, and how long their longest kernel is. Those of arc `e` stand at index
-/// `e - 1`. Of a node without a need no arc is looked at: it has no pair.
+/// The summers of all arcs, and how long their longest kernel is. Of a node without a need no arc
+/// is looked at: it has no pair.
 pub(crate) fn make_summers<Z: Summer>(
     alloc: Global,
     network: &Network,
     tables: &Tables,
     region: &AskRegion,
-) -> Result<(Vec<Option<Box<Summers<Z>>>>, u32), NoMemory>
+) -> Result<(ArcMap<Summers<Z>>, u32), NoMemory>
     requires fronts { length tables.now.fronts ≡ network.now.nodes }
     requires least { length region.now.least ≡ network.now.nodes }
     requires need { length region.now.need ≡ network.now.nodes }
     requires needs { All (λ need. need ≤ END_LIMIT) region.now.need }
-    ensures arcs { IfOk result (λ made. length made.0.items ≡ length network.now.arcs) }
+    ensures arcs { IfOk result (λ made. length made.0 ≡ length network.now.arcs) }
     ensures sums { IfOk result (λ made. (e : ℕ) (arc : Arc) → arc_at network.now e ≡ Some arc
-        → states_at Z.state made.0.items e ≡ made_sums tables.now region.now arc) }
+        → states_at Z.state made.0 e ≡ made_sums tables.now region.now arc) }
     ensures places { IfOk result (λ made. (e : ℕ) (arc : Arc) → arc_at network.now e ≡ Some arc
         → FitsIn region.now made.1 arc) }
     ensures within { IfOk result (λ made. made.1 ≤ END_LIMIT) }
 {
     arcs_by_number();
     let needs = region.need.as_slice();
-    let mut broad = no_summers(alloc, network.arc_count())?;
+    let mut broad = ArcMap::new(alloc, network.arc_count())?;
     let mut places = 0;
     for index in 0..network.nodes() {
         if needs[index as usize] > 0 {
             let node = NodeId(index + 1);
-            let all = broad.as_mut_slice();
-            places = make_leaving(alloc, network, tables, region, node, all)?.max(places);
+            places = make_leaving(alloc, network, tables, region, node, &mut broad)?.max(places);
         }
     }
     Ok((broad, places))

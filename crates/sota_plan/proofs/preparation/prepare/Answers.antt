@@ -18,5 +18,5 @@ returns-clause-ready g c =
     ready-run c.views_are_lists.ensures.table net valid region c.requires.region c.requires.budget (lists_of c.args.tables.now) v prepared held
     (c.tables_stay_right.ensures.settled net region.dest (lists_of v) c.requires.dest prepared.to held c.make_room.ensures.ready)
     c.in_ok-make_room.ensures.room c.in_ok-order.order c.in_ok-order.ensures.value (λ e arc at. c.arcs_by_number.ensures net e arc valid at)
-    g.Z.Summer.state c.in_ok-broad.broad.items c.in_ok-broad.ensures.arcs c.in_ok-broad.ensures.sums c.in_ok-workspace.workspace
+    g.Z.Summer.state c.in_ok-broad.broad c.in_ok-broad.ensures.arcs c.in_ok-broad.ensures.sums c.in_ok-workspace.workspace
     (subst (λ (n : ℕ). (e : ℕ) (arc : Arc) → arc_at net e ≡ Some arc → FitsIn region n arc) (sym c.in_ok-workspace.ensures) c.in_ok-broad.ensures.places)

@@ -1,16 +1,17 @@
-use Rattle.std.proofs.Common.{ℕ, ◌≡◌, ◌+◌, ◌-◌, ◌≤◌, drop, replicate, slice_index, List, length, None, sym, ◌∙◌, ap, arith}
+use Rattle.std.proofs.Common.{ℕ, ◌≡◌, ◌+◌, ◌-◌, ◌≤◌, replicate, slice_index, List, None, sym, ◌∙◌, ap, arith}
 use Rattle.sota_network.specs.Network.{Net, IsArc}
 use Rattle.sota_bounds.specs.Cells.{listed_need}
-use Rattle.sota_fill.specs.Fed.{SummersList}
-use Rattle.sota_plan.specs.Runs.{states_at}
-use Rattle.sota_plan.proofs.Making.{written-back, upto-first, upto-more, upto-skip, upto-all}
+use Rattle.sota_plan.proofs.Making.{upto-first, upto-none, upto-more, upto-skip, upto-all}
 use Rattle.sota_plan.proofs.summers.make_summers.Goals as goal
 use Rattle.sota_plan.proofs.summers.make_summers.Goals.{then-needs-index-gt0+in_ok-make_leaving, else-needs-index-gt0}
 
 pub loop-index-init : goal.loop-index-init
 loop-index-init g c =
-    upto-first g.Z.Summer.state c.args.network.now c.args.tables.now c.args.region.now c.in_ok-broad.broad.items (c.in_ok-broad.ensures ∙ ap (λ (n : ℕ). replicate n None) c.arc_count.ensures.value)
+    upto-first g.Z.Summer.state c.args.network.now c.args.tables.now c.args.region.now c.in_ok-broad.broad (c.in_ok-broad.ensures ∙ ap (λ (n : ℕ). replicate n None) c.arc_count.ensures.value)
     (λ e arc at. (c.arcs_by_number.ensures c.args.network.now e arc c.nodes-index-end.ensures.valid at).tail.0)
+
+pub make_leaving-requires-clause-none : goal.make_leaving-requires-clause-none
+make_leaving-requires-clause-none g c = λ e arc at there. upto-none g.Z.Summer.state c.args.network.now c.args.tables.now c.args.region.now c.loop-index.index c.loop-index.broad c.loop-index.places c.loop-index.invariant e arc at there
 
 pub loop-index-preserved : goal.loop-index-preserved
 loop-index-preserved g c =
@@ -18,19 +19,16 @@ loop-index-preserved g c =
     let tables = c.args.tables.now in
     let region = c.args.region.now in
     let k : ℕ = c.loop-index.index in
-    let old = c.loop-index.broad.items in
+    let old = c.loop-index.broad in
     let places : ℕ = c.loop-index.places in
     let upto = c.loop-index.invariant in
     elim c.if-needs-index-gt0.branch [
       | then-needs-index-gt0+in_ok-make_leaving w ↦
           let made = w.in_ok-make_leaving.ensures in
-          let same = w.as_mut_slice-all.ensures.value in
-          let long : length w.make_leaving.new.broad ≡ c.loop-index.broad.len = omega (arith, made.length, ap length same, w.as_mut_slice-all.ensures.len) in
-          let written = written-back c.loop-index.broad.len w.make_leaving.new.broad (drop (length w.make_leaving.new.broad) old) long in
-          rw (w.broad-is, w.places-is, written)
-          (upto-more g.Z.Summer.state net tables region k old w.make_leaving.new.broad places w.max-places.result upto (made.length ∙ ap length same) (omega (arith, w.max-places.ensures)) (omega (arith, w.max-places.ensures, made.within, upto.within))
+          rw (w.broad-is, w.places-is)
+          (upto-more g.Z.Summer.state net tables region k old w.make_leaving.new.broad places w.max-places.result upto made.length (omega (arith, w.max-places.ensures)) (omega (arith, w.max-places.ensures, made.within, upto.within))
           (λ e arc at there. (made.sums e arc at there, λ wide. omega (arith, made.places e arc at there wide, w.max-places.ensures)))
-          (λ e arc at off. made.others e arc at off ∙ ap (λ (b : SummersList g.row.Z.Denot). states_at g.Z.Summer.state b e) same))
+          made.others)
       | else-needs-index-gt0 w ↦
           let needs : List ℕ = region.need in
           let place : k + 1 - 1 ≡ k = omega arith in
@@ -43,7 +41,7 @@ returns-clause-sums g c = λ e arc at.
     let net : Net = c.args.network.now in
     let valid : IsArc net arc = c.arcs_by_number.ensures net e arc c.nodes-index-end.ensures.valid at in
     let low : arc.tail ≤ c.loop-index.index = omega (arith, valid.tail.1, c.loop-index-test.false, c.nodes-index-end.ensures.value) in
-    upto-all g.Z.Summer.state net c.args.tables.now c.args.region.now c.loop-index.index c.loop-index.broad.items c.loop-index.places c.loop-index.invariant e arc at low
+    upto-all g.Z.Summer.state net c.args.tables.now c.args.region.now c.loop-index.index c.loop-index.broad c.loop-index.places c.loop-index.invariant e arc at low
 
 pub returns-clause-places : goal.returns-clause-places
 returns-clause-places g c = λ e arc at.
