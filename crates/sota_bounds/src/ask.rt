@@ -10,6 +10,7 @@ use crate::RegionFault;
 use crate::cells::{broad_cells_of, needs_of, table_cells_of};
 use crate::least::least_to;
 use crate::search::{Direction, search};
+use sota_kept::LeastTime;
 use sota_network::Network;
 use sota_network::laws::{lists_by_number, region_by_least_times, regions_have_least_times};
 use sota_units::{Items, NoMemory, NodeId};
@@ -25,7 +26,7 @@ pub struct AskRegion {
     pub budget: u32,
     /// The least time from each node to the destination, in ticks: that of node `i` stands at
     /// index `i - 1`. None: unreachable.
-    pub least: Items<Option<u64>>,
+    pub least: Items<LeastTime>,
     /// One more than the greatest budget of each node's pairs, 0 where it has none: that of node
     /// `i` stands at index `i - 1`.
     pub need: Items<u32>,
@@ -60,7 +61,7 @@ pub struct AskNeeds {
 
 impl AskNeeds {
     /// The region with these least times to its destination.
-    pub fn with_least(self, least: Items<Option<u64>>) -> AskRegion
+    pub fn with_least(self, least: Items<LeastTime>) -> AskRegion
         ensures made { (net : Net) (origin dest budget : ℕ) → AreLeastTo net dest least
             → AreNeeds self net least origin dest budget → IsRegion result net origin dest budget }
         ensures least { result.least ≡ least }
@@ -109,7 +110,7 @@ pub fn region(
 pub fn needs_by_least(
     alloc: Global,
     network: &Network,
-    least: &[Option<u64>],
+    least: &[LeastTime],
     origin: NodeId,
     dest: NodeId,
     budget: u32,
@@ -138,7 +139,7 @@ pub fn needs_by_least(
 fn all_needs(
     alloc: Global,
     network: &Network,
-    least: &[Option<u64>],
+    least: &[LeastTime],
     origin: NodeId,
     dest: NodeId,
     budget: u32,

@@ -9,6 +9,7 @@ ghost use Rattle.sota_bounds.specs.Cells.{need_by_times, pairs_by_need};
 ghost use Rattle.sota_bounds.specs.Cells.{table_cells_by_lists, broad_cells_by_lists};
 ghost use Rattle.sota_bounds.specs.Cells.{broad_cells_at};
 
+use sota_kept::LeastTime;
 use sota_network::laws::{lists_by_number, numbers_of_arcs};
 use sota_network::{Network, broad_at};
 use sota_units::{NoMemory, NodeId};
@@ -18,8 +19,8 @@ use std::alloc::Global;
 pub(crate) fn needs_of(
     alloc: Global,
     nodes: u32,
-    least: &[Option<u64>],
-    from: &[Option<u64>],
+    least: &[LeastTime],
+    from: &[LeastTime],
     dest: NodeId,
     budget: u32,
 ) -> Result<Vec<u32>, NoMemory>
@@ -45,11 +46,11 @@ pub(crate) fn needs_of(
 }
 
 /// The need of a node that is not the destination.
-fn need_between(to: Option<u64>, from: Option<u64>, budget: u32) -> u32
+fn need_between(to: LeastTime, from: LeastTime, budget: u32) -> u32
     requires { budget ≤ BUDGET_LIMIT }
     ensures { result ≡ need_between budget to from }
 {
-    let (Some(to), Some(from)) = (to, from) else {
+    let (Some(to), Some(from)) = (to.get(), from.get()) else {
         return 0;
     };
     let need = (u64::from(budget) + 1).saturating_sub(from);
@@ -57,18 +58,18 @@ fn need_between(to: Option<u64>, from: Option<u64>, budget: u32) -> u32
 }
 
 /// The number of pairs of a node with this time to the destination and this need.
-fn pairs_of(to: Option<u64>, need: u32) -> u64
+fn pairs_of(to: LeastTime, need: u32) -> u64
     ensures value { result ≡ pairs_by_need to need }
     ensures within { result ≤ need }
 {
-    match to {
+    match to.get() {
         Some(to) => u64::from(need).saturating_sub(to),
         None => 0,
     }
 }
 
 /// The number of pairs of all nodes.
-pub(crate) fn table_cells_of(least: &[Option<u64>], needs: &[u32]) -> u64
+pub(crate) fn table_cells_of(least: &[LeastTime], needs: &[u32]) -> u64
     requires nodes { length least.now ≤ NODE_LIMIT }
     requires same { length needs.now ≡ length least.now }
     requires within { All (λ need. need ≤ BUDGET_LIMIT + 1) needs.now }
@@ -84,7 +85,7 @@ pub(crate) fn table_cells_of(least: &[Option<u64>], needs: &[u32]) -> u64
 /// What all arcs add to the broad cells. Of a node without a pair no arc is looked at.
 pub(crate) fn broad_cells_of(
     network: &Network,
-    least: &[Option<u64>],
+    least: &[LeastTime],
     needs: &[u32],
     budget: u32,
 ) -> u64

@@ -10,6 +10,7 @@ ghost use Rattle.sota_bounds.specs.Search.{TIME_LIMIT, time_at};
 
 use crate::least::least_to;
 use crate::search::{Direction, least_times};
+use sota_kept::LeastTime;
 use sota_network::{Arc, Network};
 use sota_units::{ArcId, NoMemory, NodeId, Tick};
 use std::alloc::Global;
@@ -23,7 +24,7 @@ pub fn affected(
     dest: NodeId,
     arc: ArcId,
     first: Tick,
-) -> Result<Vec<Option<u64>>, NoMemory>
+) -> Result<Vec<LeastTime>, NoMemory>
     requires dest { IsNode network.now dest }
     requires arc { (1 ≤ arc) × (arc ≤ length network.now.arcs) }
     ensures { IfOk result (λ budgets. AreFirstAffected network.now dest arc first budgets.items) }
@@ -36,11 +37,11 @@ pub fn affected(
 pub fn affected_by_least(
     alloc: Global,
     network: &Network,
-    least: &[Option<u64>],
+    least: &[LeastTime],
     dest: NodeId,
     arc: ArcId,
     first: Tick,
-) -> Result<Vec<Option<u64>>, NoMemory>
+) -> Result<Vec<LeastTime>, NoMemory>
     requires least { AreLeastTo network.now dest least.now }
     requires arc { (1 ≤ arc) × (arc ≤ length network.now.arcs) }
     ensures { IfOk result (λ budgets. AreFirstAffected network.now dest arc first budgets.items) }
@@ -54,12 +55,12 @@ pub fn affected_by_least(
 /// The first affected budgets of all nodes, by their least times to the arc's tail and the least
 /// time from the arc's head on.
 fn with_onward(
-    mut times: Vec<Option<u64>>,
+    mut times: Vec<LeastTime>,
     dest: NodeId,
     arc: &Arc,
     first: Tick,
-    onward: Option<u64>,
-) -> Vec<Option<u64>>
+    onward: LeastTime,
+) -> Vec<LeastTime>
     requires nodes { length times.items ≤ NODE_LIMIT }
     requires to { All (λ time. IfSome time (λ n. n ≤ TIME_LIMIT)) times.items }
     requires onward { IfSome onward (λ n. n ≤ TIME_LIMIT) }
@@ -81,15 +82,18 @@ fn first_affected(
     arc: &Arc,
     first: Tick,
     node: NodeId,
-    to: Option<u64>,
-    onward: Option<u64>,
-) -> Option<u64>
+    to: LeastTime,
+    onward: LeastTime,
+) -> LeastTime
     requires to { IfSome to (λ n. n ≤ TIME_LIMIT) }
     requires onward { IfSome onward (λ n. n ≤ TIME_LIMIT) }
     ensures { result ≡ first_affected_by dest arc.now first node to onward }
 {
     if arc.tail == dest || node == dest {
-        return None;
+        return LeastTime::NONE;
     }
-    Some(to? + (u64::from(first.get()) + onward?))
+    match (to.get(), onward.get()) {
+        (Some(to), Some(onward)) => LeastTime::some(to + (u64::from(first.get()) + onward)),
+        _ => LeastTime::NONE,
+    }
 }

@@ -8,6 +8,7 @@ ghost use Rattle.sota_bounds.specs.Regions.{AreLeastTo};
 ghost use Rattle.sota_bounds.specs.Search.{TIME_LIMIT};
 
 use crate::search::{Direction, least_times};
+use sota_kept::LeastTime;
 use sota_network::Network;
 use sota_units::{NoMemory, NodeId};
 use std::alloc::Global;
@@ -15,11 +16,7 @@ use std::alloc::Global;
 /// The least time from each node to the destination, in ticks, over walks whose arcs are open and
 /// do not leave it: that of node `i` stands at index `i - 1`. None: unreachable. Near-linear in
 /// nodes and arcs (Dijkstra 1959).
-pub fn least_to(
-    alloc: Global,
-    network: &Network,
-    dest: NodeId,
-) -> Result<Vec<Option<u64>>, NoMemory>
+pub fn least_to(alloc: Global, network: &Network, dest: NodeId) -> Result<Vec<LeastTime>, NoMemory>
     requires { IsNode network.now dest }
     ensures { IfOk result (λ times. AreLeastTo network.now dest times.items) }
 {
@@ -34,7 +31,7 @@ pub fn least_from(
     network: &Network,
     origin: NodeId,
     dest: NodeId,
-) -> Result<Vec<Option<u64>>, NoMemory>
+) -> Result<Vec<LeastTime>, NoMemory>
     requires { IsNode network.now origin }
     ensures nodes { IfOk result (λ times. length times.items ≡ network.now.nodes) }
     ensures least { IfOk result (λ times. (i : ℕ) → IsNode network.now i

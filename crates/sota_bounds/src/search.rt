@@ -10,6 +10,7 @@ ghost use Rattle.sota_bounds.specs.Search.{target_of, arcs_at, time_at, next_vis
 ghost use Rattle.sota_bounds.specs.Search.{by_time, IsLeastBetween, IsBeyond, IsFoundBetween};
 ghost use Rattle.sota_bounds.specs.Search.{TIME_LIMIT};
 
+use sota_kept::LeastTime;
 use sota_network::laws::{arcs_by_number, numbers_of_arcs};
 use sota_network::{Arc, Network};
 use sota_units::{ArcId, NoMemory, NodeId};
@@ -42,7 +43,7 @@ pub(crate) fn least_times(
     direction: Direction,
     source: NodeId,
     dest: NodeId,
-) -> Result<Vec<Option<u64>>, NoMemory>
+) -> Result<Vec<LeastTime>, NoMemory>
     requires { IsNode network.now source }
     ensures nodes { IfOk result (λ times. length times.items ≡ network.now.nodes) }
     ensures least { IfOk result (λ times. (i : ℕ) → IsNode network.now i
@@ -63,7 +64,7 @@ pub(crate) fn search(
     source: NodeId,
     dest: NodeId,
     most: Option<u64>,
-) -> Result<Vec<Option<u64>>, NoMemory>
+) -> Result<Vec<LeastTime>, NoMemory>
     requires { IsNode network.now source }
     ensures nodes { IfOk result (λ times. length times.items ≡ network.now.nodes) }
     ensures found { IfOk result (λ times. (i : ℕ) → IsNode network.now i
@@ -74,7 +75,7 @@ pub(crate) fn search(
 {
     arcs_by_number();
     numbers_of_arcs();
-    let mut times = vec![in alloc; None; network.nodes() as usize]?;
+    let mut times = vec![in alloc; LeastTime::NONE; network.nodes() as usize]?;
     let mut queue = BinaryHeap::new(alloc);
     queue.push(Visit {
         time: Reverse(0),
@@ -83,7 +84,7 @@ pub(crate) fn search(
     while let Some(visit) = earliest_within(&mut queue, most) {
         let index = visit.node.get() as usize - 1;
         if times[index].is_none() {
-            times[index] = Some(visit.time.0);
+            times[index] = LeastTime::some(visit.time.0);
             queue_next(network, direction, dest, &visit, &times, &mut queue)?;
         }
     }
@@ -113,7 +114,7 @@ fn queue_next(
     direction: Direction,
     dest: NodeId,
     visit: &Visit,
-    times: &[Option<u64>],
+    times: &[LeastTime],
     queue: &mut BinaryHeap<Visit>,
 ) -> Result<(), NoMemory>
     requires node { IsNode network.now visit.now.node }
@@ -167,7 +168,7 @@ impl Direction {
         arc: &Arc,
         dest: NodeId,
         visit: &Visit,
-        times: &[Option<u64>],
+        times: &[LeastTime],
     ) -> Option<Visit>
         requires end { (1 ≤ target_of self arc.now) × (target_of self arc.now ≤ length times.now) }
         requires time { visit.now.time.0 < 2 ^ 63 }
@@ -175,7 +176,7 @@ impl Direction {
         ensures soon { IfSome result (λ next. next.time.0 ≤ visit.now.time.0 + TICK_LIMIT) }
     {
         let node = self.target_of(arc);
-        if arc.tail == dest || arc.time.is_closed() || times[node.get() as usize - 1].is_some() {
+        if arc.tail == dest || arc.time.is_closed() || !times[node.get() as usize - 1].is_none() {
             return None;
         }
         let time = Reverse(visit.time.0 + u64::from(arc.time.least().get()));

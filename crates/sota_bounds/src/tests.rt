@@ -6,10 +6,19 @@ use crate::{
     region,
 };
 use sota_hist::Histogram;
+use sota_kept::LeastTime;
 use sota_network::{Arc, Network};
 use sota_units::{ArcId, Mass, NoMemory, NodeId, Scale, Tick};
 use std::alloc::Global;
 use std::test::Fail;
+
+const NONE: LeastTime = LeastTime::NONE;
+
+fn some(time: u64) -> LeastTime
+    requires { time ≤ 3 }
+{
+    LeastTime::some(time)
+}
 
 /// From 1 to 3 by way of 2 in two ticks, for the straight arc is closed; and from 3 on to 4.
 fn barred_triangle(alloc: Global) -> Result<Network, NoMemory>
@@ -33,9 +42,9 @@ fn barred_triangle(alloc: Global) -> Result<Network, NoMemory>
 fn times_of_a_triangle(rt: HostRuntime) -> Result<(), Fail> {
     let network = barred_triangle(rt.alloc())?;
     let to = least_to(rt.alloc(), &network, NodeId(3))?;
-    assert!(rt; to.as_slice() == [Some(2), Some(1), Some(0), None].as_slice());
+    assert!(rt; to.as_slice() == [some(2), some(1), some(0), NONE].as_slice());
     let from = least_from(rt.alloc(), &network, NodeId(1), NodeId(3))?;
-    assert!(rt; from.as_slice() == [Some(0), Some(1), Some(2), None].as_slice());
+    assert!(rt; from.as_slice() == [some(0), some(1), some(2), NONE].as_slice());
     Ok(())
 }
 
@@ -44,9 +53,9 @@ fn times_of_a_triangle(rt: HostRuntime) -> Result<(), Fail> {
 fn affected_budgets(rt: HostRuntime) -> Result<(), Fail> {
     let network = barred_triangle(rt.alloc())?;
     let edits = [
-        (2, 1, [Some(2), Some(1), None, None]),
-        (4, 3, [Some(3), None, None, None]),
-        (3, 1, [None, None, None, None]),
+        (2, 1, [some(2), some(1), NONE, NONE]),
+        (4, 3, [some(3), NONE, NONE, NONE]),
+        (3, 1, [NONE, NONE, NONE, NONE]),
     ];
     for (arc, first, budgets) in edits {
         let found = affected(rt.alloc(), &network, NodeId(3), ArcId(arc), Tick(first))?;
@@ -77,7 +86,7 @@ fn region_of_a_triangle(rt: HostRuntime) -> Result<(), Fail> {
     let made = region(rt.alloc(), &network, NodeId(1), NodeId(3), 3)?;
     assert!(rt; made.need.as_slice() == [4, 3, 0, 0].as_slice());
     assert_eq!(rt; (made.table_cells, made.broad_cells), (4, 0));
-    assert!(rt; made.least.as_slice() == [Some(2), Some(1), Some(0), None].as_slice());
+    assert!(rt; made.least.as_slice() == [some(2), some(1), some(0), NONE].as_slice());
     let AskRegion { least, need, .. } = made;
     assert_eq!(rt; (least.into_vec().len(), need.into_vec().len()), (4, 4));
     Ok(())

@@ -4,6 +4,7 @@ ghost use Rattle.sota_network.specs.Network.{IsNode};
 ghost use Rattle.sota_kept.specs.Ticks.{END_LIMIT, up_to, least_to};
 ghost use Rattle.sota_fill.specs.Fed.{IsTarget};
 
+use sota_kept::LeastTime;
 use sota_network::Network;
 use sota_units::NodeId;
 
@@ -13,7 +14,7 @@ use sota_units::NodeId;
 pub struct Target<'a> {
     pub network: &'a Network,
     pub dest: NodeId,
-    pub least: &'a [Option<u64>],
+    pub least: &'a [LeastTime],
 }
 
 impl<'a> Target<'a> {
@@ -29,10 +30,10 @@ impl<'a> Target<'a> {
 
 /// The base of a node by its least time to the destination, which never counts as one above the
 /// greatest budget.
-pub fn base_of(time: Option<u64>) -> u32
+pub fn base_of(time: LeastTime) -> u32
     ensures { result ≡ up_to END_LIMIT time }
 {
-    match time {
+    match time.get() {
         Some(ticks) => ticks.min(65_536) as u32,
         None => 65_536,
     }

@@ -1,4 +1,5 @@
 pub mod Ticks
+pub mod LeastTime
 pub mod Edits
 pub mod NodeTables
 pub mod States

@@ -12,6 +12,7 @@ use crate::laws::network_laws;
 use crate::timed::Timed;
 use sota_bounds::least_from;
 use sota_hist::Histogram;
+use sota_kept::LeastTime;
 use sota_network::laws::reaches_by_walks;
 use sota_network::{Arc, Network};
 use sota_units::{ArcId, NoMemory, NodeId, Scale, Tick};
@@ -83,18 +84,18 @@ fn quickest(alloc: Global, timed: &Timed) -> Result<Network, NoMemory>
 }
 
 /// The need of a node that is reached at this time at the soonest.
-fn need_by(time: Option<u64>, budget: u32) -> u32
+fn need_by(time: LeastTime, budget: u32) -> u32
     requires { budget ≤ BUDGET_LIMIT }
     ensures { result ≡ need_by budget time }
 {
-    match time {
+    match time.get() {
         Some(time) if time <= u64::from(budget) => budget + 1 - time as u32,
         _ => 0,
     }
 }
 
 /// Those of all nodes.
-fn needs_by(alloc: Global, times: &[Option<u64>], budget: u32) -> Result<Vec<u32>, NoMemory>
+fn needs_by(alloc: Global, times: &[LeastTime], budget: u32) -> Result<Vec<u32>, NoMemory>
     requires { budget ≤ BUDGET_LIMIT }
     ensures { IfOk result (λ needs. needs.items ≡ map (need_by budget) times.now) }
 {

@@ -16,6 +16,7 @@ ghost use Rattle.sota_plan.specs.Steps.{base_by, cells_of, too_many, StepsTaken}
 
 use sota_bounds::AskRegion;
 use sota_fill::base_of;
+use sota_kept::LeastTime;
 use sota_kept::kept::tables_stay_right;
 use sota_kept::laws::least_ticks;
 use sota_network::Network;
@@ -29,7 +30,7 @@ use std::alloc::Global;
 const KEPT_LIMIT: u64 = 60_000_000;
 
 /// The base of each node by its least time to the destination.
-pub(crate) fn bases_of(alloc: Global, least: &[Option<u64>]) -> Result<Vec<u32>, NoMemory>
+pub(crate) fn bases_of(alloc: Global, least: &[LeastTime]) -> Result<Vec<u32>, NoMemory>
     ensures { IfOk result (λ bases. bases.items ≡ listed (base_by least.now) (length least.now)) }
 {
     let mut bases = Vec::with_capacity(alloc, least.len())?;

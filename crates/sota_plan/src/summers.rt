@@ -14,6 +14,7 @@ ghost use Rattle.sota_plan.specs.Runs.{first_position, made_sums};
 
 use sota_bounds::AskRegion;
 use sota_fill::{ArcMap, Summers, base_of};
+use sota_kept::LeastTime;
 use sota_network::laws::{arcs_by_number, numbers_of_arcs};
 use sota_network::{Arc, Network};
 use sota_online::Summer;
@@ -25,11 +26,11 @@ use std::alloc::Global;
 const NARROW: usize = 32;
 
 /// The number of pairs of a node in a region, by its least time to the destination and its need.
-fn pairs_of(time: Option<u64>, need: u32) -> u32
+fn pairs_of(time: LeastTime, need: u32) -> u32
     ensures value { result ≡ pairs_by_need time need }
     ensures within { result ≤ need }
 {
-    match time {
+    match time.get() {
         Some(time) => u64::from(need).saturating_sub(time) as u32,
         None => 0,
     }
@@ -48,7 +49,7 @@ fn pairs_at_tail(region: &AskRegion, arc: &Arc) -> u32
 }
 
 /// The base of a node by the least times of all.
-fn base_at(least: &[Option<u64>], node: NodeId) -> u32
+fn base_at(least: &[LeastTime], node: NodeId) -> u32
     requires { (1 ≤ node) × (node ≤ length least.now) }
     ensures { result ≡ base_by least.now node }
 {

@@ -14,6 +14,7 @@ use crate::planned_table::PlannedTable;
 use crate::policy::head_of;
 use sota_bounds::AskRegion;
 use sota_check::laws::planned_brackets_hold;
+use sota_kept::LeastTime;
 use sota_kept::laws::least_ticks;
 use sota_network::Network;
 use sota_network::laws::{lists_by_number, region_by_least_times, regions_have_least_times};
@@ -89,10 +90,10 @@ fn row_of(
 }
 
 /// The first budget at which a node can arrive, by its least time to the destination.
-fn first_budget(least: Option<u64>) -> u32
+fn first_budget(least: LeastTime) -> u32
     ensures { result ≡ up_to END_LIMIT least }
 {
-    match least {
+    match least.get() {
         Some(ticks) if ticks <= u64::from(BUDGET_LIMIT) => ticks as u32,
         _ => BUDGET_LIMIT + 1,
     }

@@ -5,12 +5,13 @@ ghost use Rattle.sota_kept.specs.NodeTables.{cut_to};
 ghost use Rattle.sota_bounds.specs.Search.{time_at};
 ghost use Rattle.sota_tables.specs.Views.{HasNode, SameNodes, table_at};
 
+use sota_kept::LeastTime;
 use sota_tables::Tables;
 use sota_units::{BUDGET_LIMIT, NodeId};
 
 /// Keeps the entries of each node below its first affected budget, and all where that is never,
 /// which is None: that of node `i` stands at index `i - 1`.
-pub(crate) fn cut_all(tables: &mut Tables, budgets: &[Option<u64>])
+pub(crate) fn cut_all(tables: &mut Tables, budgets: &[LeastTime])
     requires { length budgets.now ≡ length tables.old.fronts }
     ensures nodes { SameNodes tables.old tables.new }
     ensures tables { (i : ℕ) → HasNode tables.old i → table_at tables.new i
@@ -23,9 +24,9 @@ pub(crate) fn cut_all(tables: &mut Tables, budgets: &[Option<u64>])
 }
 
 /// A front that keeps the entries below a budget.
-fn front_below(budget: Option<u64>) -> u32
+fn front_below(budget: LeastTime) -> u32
     ensures { result ≡ up_to END_LIMIT budget }
 {
     let most = u64::from(BUDGET_LIMIT) + 1;
-    budget.map_or(most, |budget| budget.min(most)) as u32
+    budget.get().map_or(most, |budget| budget.min(most)) as u32
 }

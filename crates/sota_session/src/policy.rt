@@ -101,7 +101,7 @@ fn row_of(
 {
     let index = node.get() as usize - 1;
     let need = region.need.as_slice()[index];
-    let Some(first) = region.least.as_slice()[index] else {
+    let Some(first) = region.least.as_slice()[index].get() else {
         return Ok(None);
     };
     if first >= u64::from(need) {

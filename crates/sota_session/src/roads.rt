@@ -9,6 +9,7 @@ ghost use Rattle.sota_session.specs.Roads.{KeepsTicks};
 
 use sota_bounds::{affected, affected_by_least};
 use sota_hist::Histogram;
+use sota_kept::LeastTime;
 use sota_kept::laws::edits_affect;
 use sota_network::{Network, NoArc};
 use sota_units::{ArcId, Items, NoMemory, NodeId, Tick};
@@ -19,7 +20,7 @@ use std::marker::Model;
 #[derive(Drop)]
 struct KeptTimes {
     dest: NodeId,
-    times: Items<Option<u64>>,
+    times: Items<LeastTime>,
 }
 
 /// A network, seen as such. The least times to the destination of the last ask stay for the next
@@ -62,7 +63,7 @@ impl Roads {
     }
 
     /// Hands out the least times to a destination. None: they are not known.
-    pub(crate) fn take_times(&mut self, dest: NodeId) -> Option<Items<Option<u64>>>
+    pub(crate) fn take_times(&mut self, dest: NodeId) -> Option<Items<LeastTime>>
         ensures same { self.new ≡ self.old }
         ensures times { IfSome result (λ times. AreLeastTo self.old dest times) }
     {
@@ -75,7 +76,7 @@ impl Roads {
     }
 
     /// Lends the least times to a destination. None: they are not known.
-    fn times_to(&self, dest: NodeId) -> Option<&[Option<u64>]>
+    fn times_to(&self, dest: NodeId) -> Option<&[LeastTime]>
         ensures { IfSome result (λ times. AreLeastTo self.now dest times.now) }
     {
         let known = self.times.as_ref()?;
@@ -87,7 +88,7 @@ impl Roads {
     }
 
     /// Keeps the least times to a destination.
-    pub(crate) fn keep_times(&mut self, dest: NodeId, times: Items<Option<u64>>)
+    pub(crate) fn keep_times(&mut self, dest: NodeId, times: Items<LeastTime>)
         requires { AreLeastTo self.old dest times }
         ensures { self.new ≡ self.old }
     {
@@ -102,7 +103,7 @@ impl Roads {
         dest: NodeId,
         arc: ArcId,
         first: Tick,
-    ) -> Result<Vec<Option<u64>>, NoMemory>
+    ) -> Result<Vec<LeastTime>, NoMemory>
         requires dest { IsNode self.now dest }
         requires arc { (1 ≤ arc) × (arc ≤ length self.now.arcs) }
         ensures { IfOk result (λ budgets. AreFirstAffected self.now dest arc first budgets.items) }

@@ -21,6 +21,7 @@ use crate::planned_table::PlannedTable;
 use crate::roads::Roads;
 use sota_bounds::AskFault;
 use sota_hist::Histogram;
+use sota_kept::LeastTime;
 use sota_kept::kept::tables_stay_right;
 use sota_kept::laws::edits_affect;
 use sota_network::Network;
@@ -227,7 +228,7 @@ impl Session {
 
     /// The first affected budgets of an edit. None exactly where nothing is kept for a destination,
     /// or the arc has this time already.
-    fn cuts(&self, arc: ArcId, time: &Histogram) -> Result<Option<Vec<Option<u64>>>, EditFault>
+    fn cuts(&self, arc: ArcId, time: &Histogram) -> Result<Option<Vec<LeastTime>>, EditFault>
         ensures no_arc { (result ≡ Err edits.NoArc) ↔ (arc_at self.now.network arc ≡ None) }
         ensures cuts { IfOk result (λ cuts. IsCutFor self.now.network self.now.tables.dest arc
             time.now (option_map (λ budgets. budgets.items) cuts)) }

@@ -1,8 +1,10 @@
-use Rattle.std.proofs.Common.{rules, ℕ, ◌≡◌, ◌+◌, ◌≤◌, sym, ◌∙◌, ap, arith}
+use Rattle.std.proofs.Common.{rules, ℕ, ◌≡◌, ◌+◌, ◌-◌, ◌<◌, ◌≤◌, length, get_or, None, sym, ◌∙◌, ap, arith}
+use Rattle.std.proofs.lemmas.List.{get_or_default}
 use Rattle.std.proofs.lemmas.List.Elements.{All-weaker}
 use Rattle.sota_network.specs.Network.{IsArc}
 use Rattle.sota_network.specs.declared.network.Arc.{Arc}
 use Rattle.sota_bounds.specs.Cells.{pairs_by_lists, broad_cells_at}
+use Rattle.sota_bounds.specs.Search.{time_at}
 use Rattle.sota_bounds.proofs.Leaving.{up-to-none, up-to-more, up-to-all}
 use Rattle.sota_bounds.proofs.cells.broad_cells_of.Goals as goal
 
@@ -24,7 +26,12 @@ returns c =
 pub loop-index-preserved : goal.loop-index-preserved
 loop-index-preserved c =
     let index : ℕ = c.loop-index.index in
-    let pairs : c.pairs_of-pairs.result ≡ pairs_by_lists c.args.least.now c.args.needs.now (index + 1) = search rules in
+    let within : index < length c.args.least.now = omega (arith, c.loop-index-test.true, c.nodes-index-end.ensures.value, c.requires.nodes) in
+    let time : get_or c.args.least.now index None ≡ c.index-least-index.result =
+    get_or_default c.args.least.now index None c.index-least-index.result within ∙ sym c.index-least-index.is in
+    let read : time_at c.args.least.now (index + 1) ≡ c.index-least-index.result =
+    ap (λ (place : ℕ). get_or c.args.least.now place None) (let place : index + 1 - 1 ≡ index = omega arith in place) ∙ time in
+    let pairs : c.pairs_of-pairs.result ≡ pairs_by_lists c.args.least.now c.args.needs.now (index + 1) = rw read (search rules) in
     let here : c.broad_cells_at-cells.result ≡ broad_cells_at c.args.budget (pairs_by_lists c.args.least.now c.args.needs.now (index + 1)) (index + 1) c.args.network.now.arcs =
     c.broad_cells_at-cells.ensures.value ∙ ap (λ (n : ℕ). broad_cells_at c.args.budget n (index + 1) c.args.network.now.arcs) pairs in
     record {

@@ -1,4 +1,4 @@
-use Rattle.std.proofs.Common.{rules, ℕ, ◌≡◌, ◌-◌, ◌<◌, ◌≤◌, length, set, replicate, Option, None, Some, List, refl, ◌∙◌, ap, arith, heap_items}
+use Rattle.std.proofs.Common.{rules, ℕ, ◌≡◌, ◌-◌, ◌<◌, ◌≤◌, length, set, replicate, Option, None, List, refl, ◌∙◌, ap, arith, heap_items}
 use Rattle.std.proofs.Math.ListN.{length-replicate}
 use Rattle.std.proofs.lemmas.List.{get_or-replicate}
 use Rattle.sota_units.specs.Limits.{NODE_LIMIT}
@@ -56,6 +56,13 @@ pub queue_next-requires-clause-node : goal.queue_next-requires-clause-node
 queue_next-requires-clause-node c =
     visits-node c.args.network.now c.args.dest c.args.direction c.args.source c.loop-visit.times.items (heap_items c.loop-visit.queue) (heap_items c.earliest_within.new.queue) c.in-Some.visit c.loop-visit.invariant.search c.in-Some.ensures.taken
 
+pub some-requires : goal.some-requires
+some-requires c =
+    let soon : c.in-Some.visit.time.0 ≤ TIME_LIMIT =
+    visits-soon c.args.network.now c.args.dest c.args.direction c.args.source c.loop-visit.times.items (heap_items c.loop-visit.queue) (heap_items c.earliest_within.new.queue) c.in-Some.visit c.loop-visit.invariant.search c.in-Some.ensures.taken
+    (let small : c.args.network.now.nodes ≤ NODE_LIMIT = omega (arith, c.nodes.ensures.within) in small) in
+    omega (arith, soon)
+
 pub queue_next-requires-clause-time : goal.queue_next-requires-clause-time
 queue_next-requires-clause-time c =
     let soon : c.in-Some.visit.time.0 ≤ TIME_LIMIT =
@@ -70,7 +77,7 @@ loop-visit-smaller c =
     omega (arith, less)
 
 -- the step of the search that an iteration took
-step : (c : goal.In_ok-queue_next) → IsStep c.args.network.now c.args.dest c.args.direction c.loop-visit.times.items (set c.loop-visit.times.items (c.get.result - 1) (Some c.in-Some.visit.time.0)) (heap_items c.loop-visit.queue) (heap_items c.earliest_within.new.queue)
+step : (c : goal.In_ok-queue_next) → IsStep c.args.network.now c.args.dest c.args.direction c.loop-visit.times.items (set c.loop-visit.times.items (c.get.result - 1) c.some.result) (heap_items c.loop-visit.queue) (heap_items c.earliest_within.new.queue)
     (heap_items c.queue_next.new.queue) c.in-Some.visit
 step c = record {
   moved = c.in-Some.ensures.taken;
@@ -78,20 +85,21 @@ step c = record {
   never = read-none c.loop-visit.times.items c.get.result c.in-Some.visit.node c.index.result.now c.is_none.result c.get.ensures
       (visited c.args.network.now c.args.dest c.args.direction c.args.source c.loop-visit.times.items (heap_items c.loop-visit.queue) (heap_items c.earliest_within.new.queue) c.in-Some.visit c.loop-visit.invariant.search
       c.in-Some.ensures.taken c.get.result c.get.ensures) c.index.ensures c.is_none.ensures c.if-is_none.true;
-  becomes = ap (λ (k : ℕ). set c.loop-visit.times.items (k - 1) (Some c.in-Some.visit.time.0)) c.get.ensures;
+  becomes = ap (λ (k : ℕ). set c.loop-visit.times.items (k - 1) c.some.result) c.get.ensures
+      ∙ ap (λ (time : Option ℕ). set c.loop-visit.times.items (c.in-Some.visit.node - 1) time) c.some.ensures;
   queued = rw c.deref.ensures.value at c.in_ok-queue_next.ensures.queued;
   soon = c.in_ok-queue_next.ensures.soon;
 }
 
 pub loop-visit-smaller-in-Continue-branch-3 : goal.loop-visit-smaller-in-Continue-branch-3
 loop-visit-smaller-in-Continue-branch-3 c =
-    fewer c.args.network.now (arcs (goal.at.loop-visit-smaller-in-Continue-branch-3 c).After-nodes) c.args.dest c.args.direction c.args.source c.requires c.loop-visit.times.items (set c.loop-visit.times.items (c.get.result - 1) (Some c.in-Some.visit.time.0)) (heap_items c.loop-visit.queue) (heap_items c.earliest_within.new.queue)
+    fewer c.args.network.now (arcs (goal.at.loop-visit-smaller-in-Continue-branch-3 c).After-nodes) c.args.dest c.args.direction c.args.source c.requires c.loop-visit.times.items (set c.loop-visit.times.items (c.get.result - 1) c.some.result) (heap_items c.loop-visit.queue) (heap_items c.earliest_within.new.queue)
     (heap_items c.queue_next.new.queue) c.in-Some.visit c.loop-visit.invariant.search (step c)
 
 pub loop-visit-preserved-in-Continue-branch-3 : goal.loop-visit-preserved-in-Continue-branch-3
 loop-visit-preserved-in-Continue-branch-3 c = record {
   order = c.in_ok-queue_next.ensures.order;
-  search = settle c.args.network.now (arcs (goal.at.loop-visit-preserved-in-Continue-branch-3 c).After-nodes) c.args.dest c.args.direction c.args.source c.requires c.loop-visit.times.items (set c.loop-visit.times.items (c.get.result - 1) (Some c.in-Some.visit.time.0)) (heap_items c.loop-visit.queue) (heap_items c.earliest_within.new.queue)
+  search = settle c.args.network.now (arcs (goal.at.loop-visit-preserved-in-Continue-branch-3 c).After-nodes) c.args.dest c.args.direction c.args.source c.requires c.loop-visit.times.items (set c.loop-visit.times.items (c.get.result - 1) c.some.result) (heap_items c.loop-visit.queue) (heap_items c.earliest_within.new.queue)
       (heap_items c.queue_next.new.queue) c.in-Some.visit c.loop-visit.invariant.search (step c);
 }
 
