@@ -10,12 +10,7 @@ use Rattle.sota_network.specs.Laws.{ListLaws}
 use Rattle.sota_kept.specs.Ticks.{END_LIMIT}
 use Rattle.sota_kept.specs.NodeTables.{NodeTable, IsNodeTable, known_end, cut_to, emptied_table}
 use Rattle.sota_kept.specs.TableLists.{table_of, AreTables}
-use Rattle.sota_tables.specs.Views.{TablesView, IsTablesView, OnlyAt, lists_of, table_at, room_of, row_needed, HasRoom}
-
-pub get_or-default : {X : Type 0} (xs : List X) (k : ℕ) (d e : X) → k < length xs → get_or xs k d ≡ get_or xs k e
-get_or-default [] k d e h = absurd (omega arith)
-get_or-default (x ∷ xs) zero d e h = refl
-get_or-default (x ∷ xs) (suc k) d e h = get_or-default xs k d e (omega arith)
+use Rattle.sota_tables.specs.Views.{TablesView, IsTablesView, HasNode, OnlyAt, lists_of, table_at, room_of, row_needed, HasRoom}
 
 module _ {X : Type 0} (rows : List (Row X)) (k : ℕ) (xs : List X) where
   pub list-own : k < length rows → list_at (with_list rows k xs) k ≡ xs
@@ -108,9 +103,21 @@ set-self [] k = refl
 set-self (x ∷ xs) zero = refl
 set-self (x ∷ xs) (suc k) = ap (λ (ys : List ℕ). x ∷ ys) (set-self xs k)
 
+-- so many entries more may stand at a node, from the end that was read of it on
+pub record MayPush (v : TablesView) (n end count : ℕ) : Type 0 where
+  pub from : 1 ≤ n
+  pub to : n ≤ length v.fronts
+  pub at : end ≡ known_end (table_at v n)
+  pub room : end + count ≤ END_LIMIT
+
+-- what is asked of a node by its name, and of tables as contracts see them
+pub may-push : (v seen : TablesView) (n node end count : ℕ) → v ≡ seen → n ≡ node → HasNode seen node → end ≡ known_end (table_at seen node) → known_end (table_at seen node) + count ≤ END_LIMIT → MayPush v n end count
+may-push v seen n node end count same named has is room =
+    let asked : MayPush seen node end count = record { from = has.0; to = has.1; at = is; room = omega (arith, is, room) } in
+    subst (λ (j : ℕ). MayPush v j end count) (sym named) (subst (λ (x : TablesView). MayPush x node end count) (sym same) asked)
+
 -- entries more
-pub view-longer : (v : TablesView) → IsTablesView v → (n end : ℕ) (ls us : List ℕ) (cs : List (Option ℕ)) → 1 ≤ n → n ≤ length v.fronts → end ≡ known_end (table_at v n) → 1 ≤ length ls → length us ≡ length ls → length cs ≡ length ls
-    → end + length ls ≤ END_LIMIT
+pub view-longer : (v : TablesView) → IsTablesView v → (n end : ℕ) (ls us : List ℕ) (cs : List (Option ℕ)) → MayPush v n end (length ls) → 1 ≤ length ls → length us ≡ length ls → length cs ≡ length ls
     → IsTablesView (record {
       dest = v.dest;
       fronts = set v.fronts (n - 1) (end + length ls);
@@ -119,20 +126,20 @@ pub view-longer : (v : TablesView) → IsTablesView v → (n end : ℕ) (ls us :
       upper = with_list v.upper (n - 1) (list_at v.upper (n - 1) ++ us);
       choices = with_list v.choices (n - 1) (list_at v.choices (n - 1) ++ cs);
     })
-view-longer v is n end ls us cs from to at some upper-long choices-long room =
-    let s = is.tables n from to in
+view-longer v is n end ls us cs may some upper-long choices-long =
+    let s = is.tables n may.from may.to in
     let b : ℕ = get_or v.bases (n - 1) 0 in
     let base : b ≤ END_LIMIT = s.base in
     let one : length (list_at v.lower (n - 1)) ≡ (table_at v n).front - b = s.lower in
     let two : length (list_at v.upper (n - 1)) ≡ (table_at v n).front - b = s.upper in
     let three : length (list_at v.choices (n - 1)) ≡ (table_at v n).front - b = s.choices in
-    let made = view-changed v is n (end + length ls) b (list_at v.lower (n - 1) ++ ls) (list_at v.upper (n - 1) ++ us) (list_at v.choices (n - 1) ++ cs) from to
+    let made = view-changed v is n (end + length ls) b (list_at v.lower (n - 1) ++ ls) (list_at v.upper (n - 1) ++ us) (list_at v.choices (n - 1) ++ cs) may.from may.to
     (record {
-      front = room;
+      front = may.room;
       base = base;
-      lower = length-append (list_at v.lower (n - 1)) ls ∙ omega (arith, one, at);
-      upper = length-append (list_at v.upper (n - 1)) us ∙ omega (arith, two, at, upper-long);
-      choices = length-append (list_at v.choices (n - 1)) cs ∙ omega (arith, three, at, choices-long);
+      lower = length-append (list_at v.lower (n - 1)) ls ∙ omega (arith, one, may.at);
+      upper = length-append (list_at v.upper (n - 1)) us ∙ omega (arith, two, may.at, upper-long);
+      choices = length-append (list_at v.choices (n - 1)) cs ∙ omega (arith, three, may.at, choices-long);
     }) in
     subst
     (λ (bs : List ℕ). IsTablesView (record {
@@ -146,7 +153,7 @@ view-longer v is n end ls us cs from to at some upper-long choices-long room =
     (set-self v.bases (n - 1)) made
 
 -- one
-pub view-pushed : (v : TablesView) → IsTablesView v → (n end : ℕ) (l u : ℕ) (c : Option ℕ) → 1 ≤ n → n ≤ length v.fronts → end ≡ known_end (table_at v n) → end < END_LIMIT
+pub view-pushed : (v : TablesView) → IsTablesView v → (n end : ℕ) (l u : ℕ) (c : Option ℕ) → MayPush v n end 1
     → IsTablesView (record {
       dest = v.dest;
       fronts = set v.fronts (n - 1) (end + 1);
@@ -155,8 +162,8 @@ pub view-pushed : (v : TablesView) → IsTablesView v → (n end : ℕ) (l u : �
       upper = with_list v.upper (n - 1) (list_at v.upper (n - 1) ++ u ∷ []);
       choices = with_list v.choices (n - 1) (list_at v.choices (n - 1) ++ c ∷ []);
     })
-view-pushed v is n end l u c from to at room =
-    view-longer v is n end (l ∷ []) (u ∷ []) (c ∷ []) from to at (let z : 1 ≤ 1 = omega arith in z) refl refl (let z : end + 1 ≤ END_LIMIT = omega arith in z)
+view-pushed v is n end l u c may =
+    view-longer v is n end (l ∷ []) (u ∷ []) (c ∷ []) may (let z : 1 ≤ 1 = omega arith in z) refl refl
 
 -- ---- a loop over the nodes
 -- what was done to the first k nodes, and not yet to the others

@@ -4,6 +4,7 @@ use Rattle.std.specs.Prelude.{false, List}
 use Rattle.std.specs.Prelude.{length, slice_index, Option, None, Some, IsSome, if◌then◌else◌}
 use Rattle.sota_units.specs.Limits.{NODE_LIMIT}
 use Rattle.sota_units.specs.Rounding.{ONE}
+use Rattle.sota_network.specs.Numbers.{listed}
 use Rattle.sota_bank.specs.Rows.{Row, list_at, cap_at, lists}
 use Rattle.sota_kept.specs.NodeTables.{NodeTable, IsNodeTable, known_end, lower_of, upper_of}
 use Rattle.sota_kept.specs.NodeTables.{next_of}
@@ -53,6 +54,10 @@ pub record IsTablesView (v : TablesView) : Type 0 where
   pub tables : (i : ℕ) → 1 ≤ i → i ≤ length v.fronts → IsNodeTable (table_at v i)
 
 -- ---- what is answered
+-- a row has an entry at each budget from the base of a node up to its front
+abbrev pub Spans : {X : Type 0} → List X → NodeTable → Type 0
+Spans row s = length row ≡ s.front - s.base
+
 -- node i is the destination
 abbrev pub is_at_dest : Option ℕ → ℕ → Bool
 is_at_dest None i = false
@@ -88,6 +93,15 @@ abbrev pub row_needed : TablesView → List ℕ → ℕ → ℕ
 row_needed v needs i =
     max (slice_index v.fronts (i - 1)) (slice_index needs (i - 1)) - slice_index v.bases (i - 1)
 
+-- the same of all nodes
+abbrev pub rows_needed : TablesView → List ℕ → List ℕ
+rows_needed v needs = listed (row_needed v needs) (length v.fronts)
+
+-- the new tables have room at each node from its known end in the old ones up to its need
+abbrev pub HasRoomUpTo : List ℕ → TablesView → TablesView → Type 0
+HasRoomUpTo needs old new = (i : ℕ) → HasNode old i
+    → slice_index needs (i - 1) - known_end (table_at old i) ≤ room_of new i
+
 -- each row of the bank may have this many entries
 abbrev pub HasRoom : {X : Type 0} → List (Row X) → List ℕ → Type 0
 HasRoom rows caps = (row : ℕ) → row < length caps → slice_index caps row ≤ cap_at rows row
@@ -108,6 +122,10 @@ pub record SameNodes (old new : TablesView) : Type 0 where
   pub dest : new.dest ≡ old.dest
   pub nodes : length new.fronts ≡ length old.fronts
   pub bases : length new.bases ≡ length old.bases
+
+-- all rooms but that of one node
+abbrev pub SameRooms : ℕ → TablesView → TablesView → Type 0
+SameRooms i old new = (j : ℕ) → 1 ≤ j → j ≢ i → room_of new j ≡ room_of old j
 
 -- all but the table of one node
 pub record OnlyAt (i : ℕ) (old new : TablesView) : Type 0 where

@@ -5,16 +5,15 @@ ghost use Rattle.std.specs.Prelude.{None, Some};
 ghost use Rattle.std.specs.List.{All, sum};
 ghost use Rattle.sota_units.specs.Limits.{NODE_LIMIT};
 ghost use Rattle.sota_units.specs.Rounding.{ONE};
-ghost use Rattle.sota_network.specs.Numbers.{listed};
 ghost use Rattle.sota_bank.specs.Rows.{list_at, lists};
 ghost use Rattle.sota_kept.specs.Ticks.{END_LIMIT};
 ghost use Rattle.sota_kept.specs.States.{KEPT_LIMIT};
 ghost use Rattle.sota_kept.specs.NodeTables.{known_end, cut_to, pushed_table};
 ghost use Rattle.sota_kept.specs.NodeTables.{emptied_table, rebased_table};
 ghost use Rattle.sota_tables.specs.Views.{TablesView, IsTablesView, HasNode, OnlyAt, SameNodes};
-ghost use Rattle.sota_tables.specs.Views.{IsKnownAt, lists_of, table_at, is_at_dest};
-ghost use Rattle.sota_tables.specs.Views.{known_lower, known_upper, choice_in, room_of, row_needed};
-ghost use Rattle.sota_tables.specs.Views.{HasRoom, longer_table};
+ghost use Rattle.sota_tables.specs.Views.{SameRooms, IsKnownAt, Spans, lists_of, table_at};
+ghost use Rattle.sota_tables.specs.Views.{is_at_dest, known_lower, known_upper, choice_in, room_of};
+ghost use Rattle.sota_tables.specs.Views.{rows_needed, HasRoom, HasRoomUpTo, longer_table};
 
 use sota_bank::RowBank;
 use sota_network::Choice;
@@ -111,6 +110,14 @@ impl Tables {
         self.bases[node.get() as usize - 1]
     }
 
+    /// The known end of a node: below this budget all is known.
+    fn known_end(&self, node: NodeId) -> u32
+        requires { HasNode self.now node }
+        ensures { result ≡ known_end (table_at self.now node) }
+    {
+        self.front(node).max(self.base(node))
+    }
+
     /// Lends the fronts of all nodes: that of node `i` stands at index `i - 1`.
     pub fn fronts(&self) -> &[u32]
         ensures value { result.now ≡ self.now.fronts }
@@ -131,8 +138,7 @@ impl Tables {
     pub fn lower_row(&self, node: NodeId) -> &[Grain]
         requires { HasNode self.now node }
         ensures value { result.now ≡ (table_at self.now node).lower }
-        ensures length { length result.now
-            ≡ (table_at self.now node).front - (table_at self.now node).base }
+        ensures length { Spans result.now (table_at self.now node) }
     {
         self.lower.front(node.get() as usize - 1)
     }
@@ -141,8 +147,7 @@ impl Tables {
     pub fn upper_row(&self, node: NodeId) -> &[Grain]
         requires { HasNode self.now node }
         ensures value { result.now ≡ (table_at self.now node).upper }
-        ensures length { length result.now
-            ≡ (table_at self.now node).front - (table_at self.now node).base }
+        ensures length { Spans result.now (table_at self.now node) }
     {
         self.upper.front(node.get() as usize - 1)
     }
@@ -151,8 +156,7 @@ impl Tables {
     pub fn choice_row(&self, node: NodeId) -> &[Choice]
         requires { HasNode self.now node }
         ensures value { result.now ≡ (table_at self.now node).choices }
-        ensures length { length result.now
-            ≡ (table_at self.now node).front - (table_at self.now node).base }
+        ensures length { Spans result.now (table_at self.now node) }
     {
         self.choices.front(node.get() as usize - 1)
     }
@@ -191,8 +195,7 @@ impl Tables {
     /// The value of a node at a budget, in a row from its base on.
     fn value_at(&self, row: &[Grain], node: NodeId, budget: u32) -> Grain
         requires known { IsKnownAt self.now node budget }
-        requires row { length row.now
-            ≡ (table_at self.now node).front - (table_at self.now node).base }
+        requires row { Spans row.now (table_at self.now node) }
         ensures { result ≡ if is_at_dest self.now.dest node then ONE else
             if nat_lt budget (table_at self.now node).base then 0
             else slice_index row.now (budget - (table_at self.now node).base) }
@@ -268,26 +271,26 @@ impl Tables {
     /// stays, on a refusal too. No row is moved where each has room already.
     pub fn regrow(&mut self, needs: &[u32]) -> Result<(), NoMemory>
         requires nodes { length needs.now ≡ length self.old.fronts }
-        requires total { sum (listed (row_needed self.old needs.now) (length self.old.fronts))
-            ≤ KEPT_LIMIT }
+        requires total { sum (rows_needed self.old needs.now) ≤ KEPT_LIMIT }
         ensures same { lists_of self.new ≡ lists_of self.old }
-        ensures room { OnOk result ((i : ℕ) → HasNode self.old i
-            → slice_index needs.now (i - 1) - known_end (table_at self.old i)
-            ≤ room_of self.new i) }
+        ensures room { OnOk result (HasRoomUpTo needs.now self.old self.new) }
     {
+        lists_by_number();
         if self.has_room_up_to(needs) {
             return Ok(());
         }
-        self.regrow_rows(needs)
+        let caps = self.rows_needed(needs)?;
+        grow(&mut self.lower, &caps)?;
+        grow(&mut self.upper, &caps)?;
+        grow(&mut self.choices, &caps)?;
+        Ok(())
     }
 
     /// Whether each node has room up to its need. A row is looked at only where its node is not
     /// known so far.
     fn has_room_up_to(&self, needs: &[u32]) -> bool
         requires { length needs.now ≡ length self.now.fronts }
-        ensures { IsTrue result → (i : ℕ) → HasNode self.now i
-            → slice_index needs.now (i - 1) - known_end (table_at self.now i)
-            ≤ room_of self.now i }
+        ensures { IsTrue result → HasRoomUpTo needs.now self.now self.now }
     {
         let count = self.fronts().len();
         for index in 0..count {
@@ -314,29 +317,10 @@ impl Tables {
             && length <= self.choices.cap(index)
     }
 
-    /// Gives each row the capacity that it wants up to its need. All but the room stays.
-    fn regrow_rows(&mut self, needs: &[u32]) -> Result<(), NoMemory>
-        requires nodes { length needs.now ≡ length self.old.fronts }
-        requires total { sum (listed (row_needed self.old needs.now) (length self.old.fronts))
-            ≤ KEPT_LIMIT }
-        ensures same { lists_of self.new ≡ lists_of self.old }
-        ensures room { OnOk result ((i : ℕ) → HasNode self.old i
-            → slice_index needs.now (i - 1) - known_end (table_at self.old i)
-            ≤ room_of self.new i) }
-    {
-        lists_by_number();
-        let caps = self.rows_needed(needs)?;
-        grow(&mut self.lower, &caps)?;
-        grow(&mut self.upper, &caps)?;
-        grow(&mut self.choices, &caps)?;
-        Ok(())
-    }
-
     /// How long each row becomes, up to its need.
     fn rows_needed(&self, needs: &[u32]) -> Result<Vec<u32>, NoMemory>
         requires { length needs.now ≡ length self.now.fronts }
-        ensures { IfOk result (λ caps. caps.items
-            ≡ listed (row_needed self.now needs.now) (length self.now.fronts)) }
+        ensures { IfOk result (λ caps. caps.items ≡ rows_needed self.now needs.now) }
     {
         let alloc = *self.fronts.allocator();
         let mut caps = Vec::with_capacity(alloc, needs.len())?;
@@ -365,11 +349,11 @@ impl Tables {
             (table_at self.old node) }
         ensures others { OnlyAt node self.old self.new }
         ensures room { room_of self.new node + 1 ≡ room_of self.old node }
-        ensures rooms { (j : ℕ) → 1 ≤ j → j ≢ node → room_of self.new j ≡ room_of self.old j }
+        ensures rooms { SameRooms node self.old self.new }
         ensures count { pushes.new ≡ pushes.old + 3 }
     {
         let index = node.get() as usize - 1;
-        let end = self.fronts[index].max(self.bases[index]);
+        let end = self.known_end(node);
         self.lower.push(index, lower, pushes);
         self.upper.push(index, upper, pushes);
         self.choices.push(index, Choice::of(choice), pushes);
@@ -396,11 +380,11 @@ impl Tables {
             ≡ longer_table lower.now upper.now choices.now (table_at self.old node) }
         ensures others { OnlyAt node self.old self.new }
         ensures room { room_of self.new node + length lower.now ≡ room_of self.old node }
-        ensures rooms { (j : ℕ) → 1 ≤ j → j ≢ node → room_of self.new j ≡ room_of self.old j }
+        ensures rooms { SameRooms node self.old self.new }
         ensures count { pushes.new ≡ pushes.old + 3 * length lower.now }
     {
         let index = node.get() as usize - 1;
-        let end = self.bases[index].max(self.fronts[index]);
+        let end = self.known_end(node);
         self.lower.append(index, lower, pushes);
         self.upper.append(index, upper, pushes);
         self.choices.append(index, choices, pushes);

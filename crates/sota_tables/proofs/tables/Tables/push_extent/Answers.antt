@@ -1,24 +1,11 @@
-use Rattle.std.proofs.Common.{ℕ, ◌≡◌, ◌≤◌, ◌+◌, ◌-◌, ◌∙◌, ap, sym, subst, arith, length, get_or}
-use Rattle.sota_kept.specs.Ticks.{END_LIMIT}
-use Rattle.sota_kept.specs.NodeTables.{known_end}
-use Rattle.sota_tables.specs.Views.{TablesView, IsTablesView, table_at}
-use Rattle.sota_tables.proofs.Viewing.{view-longer, get_or-default}
+use Rattle.std.proofs.Common.{length}
+use Rattle.sota_tables.specs.Views.{TablesView}
+use Rattle.sota_tables.proofs.Viewing.{may-push, view-longer}
 use Rattle.sota_tables.proofs.tables.Tables.push_extent.Goals as goal
 
 pub invariant_of-self : goal.invariant_of-self
 invariant_of-self g c =
     let v : TablesView = record { dest = c.self.inside.dest; fronts = c.self.inside.fronts.items; bases = c.self.inside.bases.items; lower = c.self.inside.lower; upper = c.self.inside.upper; choices = c.self.inside.choices } in
-    let is : IsTablesView v = c.self.invariant in
-    let n : ℕ = c.get.result in
-    let at : n ≡ c.args.node = c.get.ensures in
-    let node = subst (λ (x : TablesView). (1 ≤ c.args.node) × (c.args.node ≤ length x.fronts)) (sym c.self.view_is) c.requires.node in
-    let low : 1 ≤ n = omega (arith, at, node.0) in
-    let high : n ≤ length v.fronts = omega (arith, at, node.1) in
-    let base : c.index.result.now ≡ get_or v.bases (n - 1) 0 = c.index.ensures ∙ get_or-default v.bases (n - 1) c.index.result.now 0 (omega (arith, is.bases)) in
-    let front : c.index-2.result.now ≡ get_or v.fronts (n - 1) 0 = c.index-2.ensures ∙ get_or-default v.fronts (n - 1) c.index-2.result.now 0 (omega arith) in
-    let end : c.max-end.result ≡ known_end (table_at v n) = omega (arith, c.max-end.ensures, front, base) in
-    let room : known_end (table_at v c.args.node) + length c.args.lower.now ≤ END_LIMIT =
-    subst (λ (x : TablesView). known_end (table_at x c.args.node) + length c.args.lower.now ≤ END_LIMIT) (sym c.self.view_is) c.requires.end in
-    let room' : c.max-end.result + length c.args.lower.now ≤ END_LIMIT = omega (arith, end, ap (λ (x : ℕ). known_end (table_at v x)) at, room) in
+    let may = may-push v _ c.get.result c.args.node c.known_end-end.result (length c.args.lower.now) c.self.view_is c.get.ensures c.requires.node c.known_end-end.ensures c.requires.end in
     rw (c.append.ensures.rows, c.append-2.ensures.rows, c.append-3.ensures.rows)
-    (view-longer v is n c.max-end.result c.args.lower.now c.args.upper.now c.args.choices.now low high end c.requires.some c.requires.lengths.0 c.requires.lengths.1 room')
+    (view-longer v c.self.invariant c.get.result c.known_end-end.result c.args.lower.now c.args.upper.now c.args.choices.now may c.requires.some c.requires.lengths.0 c.requires.lengths.1)

@@ -2,8 +2,8 @@ use Rattle.std.proofs.Common.{ℕ, ◌≡◌, ◌∙◌, ap, refl, sym, subst, a
 use Rattle.sota_network.specs.Numbers.{listed}
 use Rattle.sota_tables.specs.Views.{TablesView, HasRoom, row_needed}
 use Rattle.sota_tables.proofs.Viewing.{caps-long, rows-fit, room-made, view-regrown}
-use Rattle.sota_tables.proofs.tables.Tables.regrow_rows.Goals as goal
-use Rattle.sota_tables.proofs.tables.Tables.regrow_rows.Goals.{In_ok-caps}
+use Rattle.sota_tables.proofs.tables.Tables.regrow.Goals as goal
+use Rattle.sota_tables.proofs.tables.Tables.regrow.Goals.{In_ok-caps}
 
 -- the tables as contracts see them
 abbrev seen : In_ok-caps → TablesView
