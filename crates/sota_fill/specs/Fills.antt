@@ -8,7 +8,7 @@ use Rattle.sota_kept.specs.Ticks.{END_LIMIT}
 use Rattle.sota_kept.specs.NodeTables.{NodeTable, AreReady, IsExtent, known_end}
 use Rattle.sota_kept.specs.NodeTables.{lower_in, upper_in}
 use Rattle.sota_online.specs.Summer.{SummerState}
-use Rattle.sota_tables.specs.Views.{TablesView, OnlyAt, table_at, room_of}
+use Rattle.sota_tables.specs.Views.{TablesView, OnlyAt, SameRooms, table_at, room_of}
 use Rattle.sota_fill.specs.Fed.{AreFed, IsTarget, SummersList, summers_at}
 use Rattle.sota_fill.specs.declared.broad.Summers.{Summers}
 use Rattle.sota_fill.specs.declared.target.Target.{Target}
@@ -22,7 +22,7 @@ pub record IsLonger (i count : ℕ) (old new : TablesView) : Type 0 where
   pub front : 0 < count → (table_at new i).front ≡ known_end (table_at old i) + count
   pub still : count ≡ 0 → (table_at new i).front ≡ (table_at old i).front
   pub room : room_of new i + count ≡ room_of old i
-  pub rooms : (j : ℕ) → 1 ≤ j → j ≢ i → room_of new j ≡ room_of old j
+  pub rooms : SameRooms i old new
 
 -- at the budgets below `to`, an arc reads what the grid has at its head, where it is open
 pub record ReadsAs (net : Net) (dest : ℕ) (arc : Arc) (to : ℕ) (tables : ℕ → NodeTable)

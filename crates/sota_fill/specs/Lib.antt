@@ -1,6 +1,7 @@
 pub mod ArcLends
 pub mod ArcPlaces
 pub mod Beaten
+pub mod Bests
 pub mod Bounds
 pub mod Certain
 pub mod Fed

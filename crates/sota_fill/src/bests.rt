@@ -1,13 +1,12 @@
 // The best arc that leaves a node, at budgets in a row.
-ghost use Rattle.std.specs.Prelude.{ℕ, ◌≡◌, ◌≢◌, ◌+◌, ◌-◌, ◌*◌, ◌<◌, ◌≤◌, max, nat_lt, length};
-ghost use Rattle.std.specs.Prelude.{slice_index, slice_index_or, None, Some, if◌then◌else◌};
+ghost use Rattle.std.specs.Prelude.{ℕ, ◌≡◌, ◌≢◌, ◌+◌, ◌-◌, ◌<◌, ◌≤◌, length, slice_index, Some};
 ghost use Rattle.sota_network.specs.Network.{IsNode, arc_at};
-ghost use Rattle.sota_network.specs.Grid.{plain_sum, best_sum, choice_of};
+ghost use Rattle.sota_network.specs.Grid.{plain_sum};
 ghost use Rattle.sota_network.specs.declared.network.Arc.{Arc};
 ghost use Rattle.sota_kept.specs.Ticks.{END_LIMIT};
-ghost use Rattle.sota_kept.specs.NodeTables.{lower_in, upper_in};
 ghost use Rattle.sota_tables.specs.Views.{HasNode, table_at};
-ghost use Rattle.sota_fill.specs.Beaten.{IsRaised};
+ghost use Rattle.sota_fill.specs.Bests.{AreBest, AreChoices, AreChosen, AreFrom, AreRaised};
+ghost use Rattle.sota_fill.specs.Bests.{AreRaisedFrom, lower_by, upper_by};
 ghost use Rattle.sota_fill.specs.Bounds.{bound_row, value_in};
 ghost use Rattle.sota_fill.specs.Fed.{AllFed, IsTarget};
 ghost use Rattle.sota_fill.specs.Fills.{CanSum, ReadsGrid};
@@ -90,16 +89,12 @@ fn add_lower<Z: Summer>(
 ) -> u128
     requires sum { CanSum Z.state target.now tables.now broad.now number from (from + count) }
     requires count { (1 ≤ count) × (count ≤ 64) }
-    ensures lower { (arc : Arc) → arc_at target.now.network.now number ≡ Some arc → (x : ℕ)
-        → x < count → slice_index part.new.lower x ≡ max (slice_index part.old.lower x)
-        (plain_sum arc (lower_in target.now.dest (table_at tables.now)) (from + x)) }
-    ensures choices { (arc : Arc) → arc_at target.now.network.now number ≡ Some arc → (x : ℕ)
-        → x < count → slice_index_or part.new.choices x None
-        ≡ if nat_lt (slice_index part.old.lower x)
-        (plain_sum arc (lower_in target.now.dest (table_at tables.now)) (from + x))
-        then Some number else slice_index_or part.old.choices x None }
+    ensures lower { AreRaised target.now (lower_by target.now tables.now) number from count
+        part.old.lower part.new.lower }
+    ensures choices { AreChosen target.now (lower_by target.now tables.now) number from count
+        part.old.lower part.old.choices part.new.choices }
     ensures last { (arc : Arc) → arc_at target.now.network.now number ≡ Some arc → result
-        ≡ plain_sum arc (lower_in target.now.dest (table_at tables.now)) (from + (count - 1)) }
+        ≡ plain_sum arc (lower_by target.now tables.now) (from + (count - 1)) }
     ensures upper { part.new.upper ≡ part.old.upper }
 {
     let sums = &mut part.sums[..count];
@@ -126,9 +121,8 @@ fn add_upper<Z: Summer>(
 )
     requires sum { CanSum Z.state target.now tables.now broad.now number from (from + count) }
     requires count { (1 ≤ count) × (count ≤ 64) }
-    ensures upper { (arc : Arc) → arc_at target.now.network.now number ≡ Some arc → (x : ℕ)
-        → x < count → slice_index part.new.upper x ≡ max (slice_index part.old.upper x)
-        (plain_sum arc (upper_in target.now.dest (table_at tables.now)) (from + x)) }
+    ensures upper { AreRaised target.now (upper_by target.now tables.now) number from count
+        part.old.upper part.new.upper }
     ensures lower { part.new.lower ≡ part.old.lower }
     ensures choices { part.new.choices ≡ part.old.choices }
 {
@@ -151,19 +145,12 @@ fn add_arc<Z: Summer>(
 )
     requires sum { CanSum Z.state target.now tables.now broad.now number from (from + count) }
     requires count { (1 ≤ count) × (count ≤ 64) }
-    ensures lower { (arc : Arc) → arc_at target.now.network.now number ≡ Some arc → (x : ℕ)
-        → x < count → slice_index part.new.lower x ≡ max (slice_index part.old.lower x)
-        (plain_sum arc (lower_in target.now.dest (table_at tables.now)) (from + x)) }
-    ensures upper { (arc : Arc) → arc_at target.now.network.now number ≡ Some arc → (x : ℕ)
-        → x < count → IsRaised (target.now.network.now.scale * floor)
-        (slice_index part.old.upper x)
-        (plain_sum arc (upper_in target.now.dest (table_at tables.now)) (from + x))
-        (slice_index part.new.upper x) }
-    ensures choices { (arc : Arc) → arc_at target.now.network.now number ≡ Some arc → (x : ℕ)
-        → x < count → slice_index_or part.new.choices x None
-        ≡ if nat_lt (slice_index part.old.lower x)
-        (plain_sum arc (lower_in target.now.dest (table_at tables.now)) (from + x))
-        then Some number else slice_index_or part.old.choices x None }
+    ensures lower { AreRaised target.now (lower_by target.now tables.now) number from count
+        part.old.lower part.new.lower }
+    ensures upper { AreRaisedFrom target.now (upper_by target.now tables.now) number from count
+        floor part.old.upper part.new.upper }
+    ensures choices { AreChosen target.now (lower_by target.now tables.now) number from count
+        part.old.lower part.old.choices part.new.choices }
 {
     filling_laws();
     let scale = target.network.scale();
@@ -197,21 +184,16 @@ pub(crate) fn find_bests<Z: Summer>(
         (table_at tables.now) }
     requires limit { from + count ≤ END_LIMIT }
     requires count { (1 ≤ count) × (count ≤ 64) }
-    requires lower_floor { (x : ℕ) → x < count → target.now.network.now.scale * floor
-        ≤ best_sum target.now.network.now (lower_in target.now.dest (table_at tables.now)) node
-        (from + x) }
-    requires upper_floor { (x : ℕ) → x < count → target.now.network.now.scale * floor
-        ≤ best_sum target.now.network.now (upper_in target.now.dest (table_at tables.now)) node
-        (from + x) }
-    ensures lower { (x : ℕ) → x < count → slice_index part.new.lower x
-        ≡ best_sum target.now.network.now (lower_in target.now.dest (table_at tables.now)) node
-        (from + x) }
-    ensures upper { (x : ℕ) → x < count → slice_index part.new.upper x
-        ≡ best_sum target.now.network.now (upper_in target.now.dest (table_at tables.now)) node
-        (from + x) }
-    ensures choices { (x : ℕ) → x < count → slice_index_or part.new.choices x None
-        ≡ choice_of target.now.network.now.arcs
-        (λ arc. plain_sum arc (lower_in target.now.dest (table_at tables.now)) (from + x)) node }
+    requires lower_floor { AreFrom target.now (lower_by target.now tables.now) node from count
+        floor }
+    requires upper_floor { AreFrom target.now (upper_by target.now tables.now) node from count
+        floor }
+    ensures lower { AreBest target.now (lower_by target.now tables.now) node from count
+        part.new.lower }
+    ensures upper { AreBest target.now (upper_by target.now tables.now) node from count
+        part.new.upper }
+    ensures choices { AreChoices target.now (lower_by target.now tables.now) node from count
+        part.new.choices }
 {
     filling_laws();
     part.clear(count);

@@ -1,9 +1,8 @@
 // Entries of a node, at the budgets from its known end on.
-ghost use Rattle.std.specs.Prelude.{ℕ, ◌≡◌, ◌+◌, ◌-◌, ◌*◌, ◌<◌, ◌≤◌, length, slice_index};
-ghost use Rattle.std.specs.Prelude.{slice_index_or, None};
-ghost use Rattle.sota_network.specs.Grid.{plain_sum, best_sum, choice_of};
-ghost use Rattle.sota_kept.specs.NodeTables.{AreReady, lower_in, upper_in};
+ghost use Rattle.std.specs.Prelude.{◌≡◌, ◌+◌, ◌-◌, ◌*◌, ◌<◌, ◌≤◌, length};
+ghost use Rattle.sota_kept.specs.NodeTables.{AreReady};
 ghost use Rattle.sota_tables.specs.Views.{table_at};
+ghost use Rattle.sota_fill.specs.Bests.{AreBest, AreChoices, lower_by, upper_by};
 ghost use Rattle.sota_fill.specs.Certain.{EndsCertain};
 ghost use Rattle.sota_fill.specs.Fed.{AllFed, IsTarget};
 ghost use Rattle.sota_fill.specs.Fills.{IsLonger, IsUnfilled};
@@ -37,15 +36,12 @@ fn push_bests<P: Ledger>(
     requires unfilled { IsUnfilled target.now.network.now target.now.dest node from (from + count)
         tables.old }
     requires count { count ≤ 64 }
-    requires lower { (x : ℕ) → x < count → slice_index part.old.lower x
-        ≡ best_sum target.now.network.now (lower_in target.now.dest (table_at tables.old)) node
-        (from + x) }
-    requires upper { (x : ℕ) → x < count → slice_index part.old.upper x
-        ≡ best_sum target.now.network.now (upper_in target.now.dest (table_at tables.old)) node
-        (from + x) }
-    requires choices { (x : ℕ) → x < count → slice_index_or part.old.choices x None
-        ≡ choice_of target.now.network.now.arcs
-        (λ arc. plain_sum arc (lower_in target.now.dest (table_at tables.old)) (from + x)) node }
+    requires lower { AreBest target.now (lower_by target.now tables.old) node from count
+        part.old.lower }
+    requires upper { AreBest target.now (upper_by target.now tables.old) node from count
+        part.old.upper }
+    requires choices { AreChoices target.now (lower_by target.now tables.old) node from count
+        part.old.choices }
     ensures ready { AreReady target.now.network.now target.now.dest (table_at tables.new) }
     ensures longer { IsLonger node count tables.old tables.new }
     ensures count { pushes.new ≡ pushes.old + 3 * count }
