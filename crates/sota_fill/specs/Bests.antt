@@ -8,6 +8,7 @@ use Rattle.sota_network.specs.declared.network.Arc.{Arc}
 use Rattle.sota_kept.specs.NodeTables.{lower_in, upper_in}
 use Rattle.sota_tables.specs.Views.{TablesView, table_at}
 use Rattle.sota_fill.specs.Beaten.{IsRaised}
+use Rattle.sota_fill.specs.declared.sources.Sources.{Sources}
 use Rattle.sota_fill.specs.declared.target.Target.{Target}
 
 -- the value of each node at each budget, by the tables
@@ -19,6 +20,12 @@ lower_by target tables = lower_in target.dest (table_at tables)
 
 abbrev pub upper_by : Target → TablesView → Values
 upper_by target tables = upper_in target.dest (table_at tables)
+
+abbrev pub lower_from : {Z : Type 0} → Sources Z → Values
+lower_from sources = lower_by sources.target.now sources.tables.now
+
+abbrev pub upper_from : {Z : Type 0} → Sources Z → Values
+upper_from sources = upper_by sources.target.now sources.tables.now
 
 -- ---- of all arcs that leave node i
 -- the sums are the best

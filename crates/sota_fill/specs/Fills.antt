@@ -9,9 +9,9 @@ use Rattle.sota_kept.specs.NodeTables.{NodeTable, AreReady, IsExtent, known_end}
 use Rattle.sota_kept.specs.NodeTables.{lower_in, upper_in}
 use Rattle.sota_online.specs.Summer.{SummerState}
 use Rattle.sota_tables.specs.Views.{TablesView, OnlyAt, SameRooms, table_at, room_of}
-use Rattle.sota_fill.specs.Fed.{AreFed, IsTarget, SummersList, summers_at}
+use Rattle.sota_fill.specs.Fed.{AreFed, IsTarget, summers_at}
 use Rattle.sota_fill.specs.declared.broad.Summers.{Summers}
-use Rattle.sota_fill.specs.declared.target.Target.{Target}
+use Rattle.sota_fill.specs.declared.sources.Sources.{Sources}
 
 -- so many entries more at node i, from its known end on: only its front, its rows and its room
 -- change
@@ -51,17 +51,22 @@ pub record IsUnfilled (net : Net) (dest i from to : ℕ) (tables : TablesView) :
   pub limit : to ≤ END_LIMIT
   pub room : to ≤ from + room_of tables i
 
+-- the tables and the summers are those of the network's nodes and arcs
+pub record AreSources {Z : Type 0} (sources : Sources Z) : Type 0 where
+  pub target : IsTarget sources.target.now
+  pub nodes : length sources.tables.now.fronts ≡ sources.target.now.network.now.nodes
+  pub arcs : length sources.broad.now ≡ length sources.target.now.network.now.arcs
+
 -- the sums of an arc at the budgets from one on below `to` can be made by its summers, which were
 -- fed all that these read, and by the tables, which have it
-pub record CanSum {Z : Type 0} (state : Z → SummerState) (target : Target) (tables : TablesView)
-    (broad : SummersList Z) (number from to : ℕ) : Type 0 where
-  pub is_target : IsTarget target
-  pub is_number : (1 ≤ number) × (number ≤ length target.network.now.arcs)
-  pub nodes : length tables.fronts ≡ target.network.now.nodes
-  pub arcs : length broad ≡ length target.network.now.arcs
+pub record CanSum {Z : Type 0} (state : Z → SummerState) (sources : Sources Z)
+    (number from to : ℕ) : Type 0 where
+  pub fit : AreSources sources
+  pub is_number : (1 ≤ number) × (number ≤ length sources.target.now.network.now.arcs)
   pub limit : to ≤ END_LIMIT
-  pub fed : (arc : Arc) (two : Summers Z) → arc_at target.network.now number ≡ Some arc
-      → summers_at broad number ≡ Some two
-      → AreFed state target.network.now target.dest arc from to two
-  pub reads : (arc : Arc) → arc_at target.network.now number ≡ Some arc
-      → ReadsAs target.network.now target.dest arc to (table_at tables)
+  pub fed : (arc : Arc) (two : Summers Z) → arc_at sources.target.now.network.now number ≡ Some arc
+      → summers_at sources.broad.now number ≡ Some two
+      → AreFed state sources.target.now.network.now sources.target.now.dest arc from to two
+  pub reads : (arc : Arc) → arc_at sources.target.now.network.now number ≡ Some arc
+      → ReadsAs sources.target.now.network.now sources.target.now.dest arc to
+      (table_at sources.tables.now)

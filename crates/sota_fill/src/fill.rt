@@ -14,6 +14,7 @@ use crate::broad::Summers;
 use crate::certain::certain_arc;
 use crate::laws::filling_laws;
 use crate::part::{PART, Part};
+use crate::sources::Sources;
 use crate::target::Target;
 use sota_network::Network;
 use sota_online::Summer;
@@ -110,7 +111,12 @@ fn fill_part<Z: Summer, P: Ledger>(
         Some(arc) => push_certain(tables, network, dest, node, from, count, arc, part, pushes),
         None => {
             let floor = last_value(tables.lower_row(node));
-            find_bests(target, tables, broad, node, from, count, floor, part);
+            let sources = Sources {
+                target,
+                tables,
+                broad,
+            };
+            find_bests(&sources, node, from, count, floor, part);
             push_bests(tables, target, node, from, count, part, pushes);
         }
     }

@@ -10,6 +10,7 @@ mod feed;
 mod fill;
 pub mod laws;
 mod part;
+mod sources;
 mod target;
 
 pub use arc_map::ArcMap;

@@ -6,4 +6,4 @@ use Rattle.sota_fill.proofs.bests.add_upper.Goals as goal
 pub sums_of-requires : goal.sums_of-requires
 sums_of-requires g c =
     let long : length (take c.args.count c.args.part.now.sums) ≡ c.args.count = take-long c.args.count c.args.part.now.sums (omega (arith, c.requires.count.1)) in
-    subst (λ (n : ℕ). CanSum g.Z.Summer.state c.args.target.now c.args.tables.now c.args.broad.now c.args.number c.args.from (c.args.from + n)) (sym long) c.requires.sum
+    subst (λ (n : ℕ). CanSum g.Z.Summer.state c.args.sources.now c.args.number c.args.from (c.args.from + n)) (sym long) c.requires.sum

@@ -30,17 +30,15 @@ out-tail among net node es k e arc same h is number =
 
 pub add_arc-requires-clause-sum : goal.add_arc-requires-clause-sum
 add_arc-requires-clause-sum g c =
-    let net : Net = c.args.target.now.network.now in
+    let net : Net = c.args.sources.now.target.now.network.now in
     let e : ℕ = c.number-item.result in
     let among : AmongLaws = (c.filling_laws.ensures net c.leaving-number-items.ensures.valid).among in
     let within = c.leaving-number-items.ensures.within c.loop-number.number-index e c.loop-number-test.true in
     let tail : (arc : Arc) → arc_at net e ≡ Some arc → arc.tail ≡ c.args.node = λ arc at.
     out-tail among net c.args.node c.leaving-number-items.result.now c.loop-number.number-index e arc c.leaving-number-items.ensures.value c.loop-number-test.true c.number-item.is at in
     record {
-      is_target = c.requires.target;
+      fit = c.requires.fit;
       is_number = (omega (arith, within.0, c.number-item.is), omega (arith, within.1, c.number-item.is));
-      nodes = c.requires.nodes;
-      arcs = c.requires.broad;
       limit = c.requires.limit;
       fed = λ arc two at is. c.requires.fed e arc two at (tail arc at) is;
       reads = λ arc at. c.requires.reads e arc at (tail arc at);
@@ -48,23 +46,23 @@ add_arc-requires-clause-sum g c =
 
 pub loop-number-preserved-then-is_beaten : goal.loop-number-preserved-then-is_beaten
 loop-number-preserved-then-is_beaten g c =
-    let net : Net = c.args.target.now.network.now in
+    let net : Net = c.args.sources.now.target.now.network.now in
     let among : AmongLaws = (c.filling_laws.ensures net c.leaving-number-items.ensures.valid).among in
-    let dest : ℕ = c.args.target.now.dest in
+    let dest : ℕ = c.args.sources.now.target.now.dest in
     let es : List ℕ = c.leaving-number-items.result.now in
     let k : ℕ = c.loop-number.number-index in
     let e : ℕ = c.number-item.result in
     let floor : ℕ = net.scale * c.args.floor in
-    let L = lower_worth c.args.target.now c.args.tables.now c.args.from in
-    let U = upper_worth c.args.target.now c.args.tables.now c.args.from in
+    let L = lower_worth c.args.sources.now.target.now c.args.sources.now.tables.now c.args.from in
+    let U = upper_worth c.args.sources.now.target.now c.args.sources.now.tables.now c.args.from in
     let arc : Arc = c.numbered-arc.result.now in
     let laws = c.filling_laws.ensures net c.leaving-number-items.ensures.valid in
     let tail : arc.tail ≡ c.args.node =
     out-tail among net c.args.node es k e arc c.leaving-number-items.ensures.value c.loop-number-test.true c.number-item.is c.numbered-arc.ensures.value in
     let reads = c.requires.reads e arc c.numbered-arc.ensures.value tail in
     let beaten = c.is_beaten.ensures c.if-is_beaten.true in
-    let lower : (x : ℕ) → x < c.args.count → L x arc < floor = λ x h. beaten-lower net laws dest (table_at c.args.tables.now) arc (c.args.from + c.args.count) c.args.floor (c.args.from + x) c.numbered-arc.ensures.valid reads beaten (omega arith) in
-    let upper : (x : ℕ) → x < c.args.count → U x arc < floor = λ x h. beaten-upper net laws dest (table_at c.args.tables.now) arc (c.args.from + c.args.count) c.args.floor (c.args.from + x) c.numbered-arc.ensures.valid reads beaten (omega arith) in
+    let lower : (x : ℕ) → x < c.args.count → L x arc < floor = λ x h. beaten-lower net laws dest (table_at c.args.sources.now.tables.now) arc (c.args.from + c.args.count) c.args.floor (c.args.from + x) c.numbered-arc.ensures.valid reads beaten (omega arith) in
+    let upper : (x : ℕ) → x < c.args.count → U x arc < floor = λ x h. beaten-upper net laws dest (table_at c.args.sources.now.tables.now) arc (c.args.from + c.args.count) c.args.floor (c.args.from + x) c.numbered-arc.ensures.valid reads beaten (omega arith) in
     record {
       lower = λ x h.
           near-pass among floor (numbered_worth net (L x)) es k e (slice_index c.loop-number.part.lower x) (L x arc) c.loop-number-test.true c.number-item.is (among.number net (L x) e arc c.numbered-arc.ensures.value) (lower x h)
@@ -79,14 +77,14 @@ loop-number-preserved-then-is_beaten g c =
 
 pub loop-number-preserved : goal.loop-number-preserved
 loop-number-preserved g c =
-    let net : Net = c.args.target.now.network.now in
+    let net : Net = c.args.sources.now.target.now.network.now in
     let among : AmongLaws = (c.filling_laws.ensures net c.leaving-number-items.ensures.valid).among in
     let es : List ℕ = c.leaving-number-items.result.now in
     let k : ℕ = c.loop-number.number-index in
     let e : ℕ = c.number-item.result in
     let floor : ℕ = net.scale * c.args.floor in
-    let L = lower_worth c.args.target.now c.args.tables.now c.args.from in
-    let U = upper_worth c.args.target.now c.args.tables.now c.args.from in
+    let L = lower_worth c.args.sources.now.target.now c.args.sources.now.tables.now c.args.from in
+    let U = upper_worth c.args.sources.now.target.now c.args.sources.now.tables.now c.args.from in
     let arc : Arc = c.numbered-arc.result.now in
     let at = c.numbered-arc.ensures.value in
     record {
@@ -103,27 +101,27 @@ loop-number-preserved g c =
 
 -- after all arcs what is found is the greatest sum
 ended : (g : given.Over) (c : After-loop-number g) (worth : Arc → ℕ) (best : ℕ)
-    → Near (c.args.target.now.network.now.scale * c.args.floor) best (best_among (numbered_worth c.args.target.now.network.now worth) (take c.loop-number.number-index c.leaving-number-items.result.now))
-    → c.args.target.now.network.now.scale * c.args.floor ≤ best_of c.args.target.now.network.now.arcs worth c.args.node → best ≡ best_of c.args.target.now.network.now.arcs worth c.args.node
+    → Near (c.args.sources.now.target.now.network.now.scale * c.args.floor) best (best_among (numbered_worth c.args.sources.now.target.now.network.now worth) (take c.loop-number.number-index c.leaving-number-items.result.now))
+    → c.args.sources.now.target.now.network.now.scale * c.args.floor ≤ best_of c.args.sources.now.target.now.network.now.arcs worth c.args.node → best ≡ best_of c.args.sources.now.target.now.network.now.arcs worth c.args.node
 ended g c worth best near most =
-    let net : Net = c.args.target.now.network.now in
+    let net : Net = c.args.sources.now.target.now.network.now in
     let among : AmongLaws = (c.filling_laws.ensures net c.leaving-number-items.ensures.valid).among in
     let all = among.best_end net worth c.args.node c.leaving-number-items.result.now c.loop-number.number-index c.leaving-number-items.ensures.value c.loop-number-test.false in
     near-end (net.scale * c.args.floor) best _ near (omega (arith, all, most)) ∙ all
 
 pub returns-clause-lower : goal.returns-clause-lower
 returns-clause-lower g c = λ x h.
-    ended g (goal.at.returns-clause-lower g c).After-loop-number (lower_worth c.args.target.now c.args.tables.now c.args.from x) (slice_index c.loop-number.part.lower x) (c.loop-number.invariant.lower x h) (c.requires.lower_floor x h)
+    ended g (goal.at.returns-clause-lower g c).After-loop-number (lower_worth c.args.sources.now.target.now c.args.sources.now.tables.now c.args.from x) (slice_index c.loop-number.part.lower x) (c.loop-number.invariant.lower x h) (c.requires.lower_floor x h)
 
 pub returns-clause-upper : goal.returns-clause-upper
 returns-clause-upper g c = λ x h.
-    ended g (goal.at.returns-clause-upper g c).After-loop-number (upper_worth c.args.target.now c.args.tables.now c.args.from x) (slice_index c.loop-number.part.upper x) (c.loop-number.invariant.upper x h) (c.requires.upper_floor x h)
+    ended g (goal.at.returns-clause-upper g c).After-loop-number (upper_worth c.args.sources.now.target.now c.args.sources.now.tables.now c.args.from x) (slice_index c.loop-number.part.upper x) (c.loop-number.invariant.upper x h) (c.requires.upper_floor x h)
 
 pub returns-clause-choices : goal.returns-clause-choices
 returns-clause-choices g c = λ x h.
-    let net : Net = c.args.target.now.network.now in
+    let net : Net = c.args.sources.now.target.now.network.now in
     let among : AmongLaws = (c.filling_laws.ensures net c.leaving-number-items.ensures.valid).among in
-    let L = lower_worth c.args.target.now c.args.tables.now c.args.from x in
+    let L = lower_worth c.args.sources.now.target.now c.args.sources.now.tables.now c.args.from x in
     let all = among.best_end net L c.args.node c.leaving-number-items.result.now c.loop-number.number-index c.leaving-number-items.ensures.value c.loop-number-test.false in
     choice-near-end (net.scale * c.args.floor) _ (slice_index_or c.loop-number.part.choices x None) _ (c.loop-number.invariant.choices x h) (omega (arith, all, c.requires.lower_floor x h))
     ∙ among.choice_end net L c.args.node c.leaving-number-items.result.now c.loop-number.number-index c.leaving-number-items.ensures.value c.loop-number-test.false

@@ -9,12 +9,12 @@ use Rattle.sota_fill.proofs.bests.find_bests.Given as goal
 -- the bests of the first numbers, where these are not below the floor
 abbrev pub invariant-loop-number : goal.invariant-loop-number
 invariant-loop-number g l = record {
-  lower : (x : ℕ) → x < l.count → Near (l.target.network.now.scale * l.floor) (slice_index l.part.lower x)
-      (best_among (numbered_worth l.target.network.now (λ arc. plain_sum arc (lower_in l.target.dest (table_at l.tables)) (l.from + x))) (take l.number-index l.number-items));
-  upper : (x : ℕ) → x < l.count → Near (l.target.network.now.scale * l.floor) (slice_index l.part.upper x)
-      (best_among (numbered_worth l.target.network.now (λ arc. plain_sum arc (upper_in l.target.dest (table_at l.tables)) (l.from + x))) (take l.number-index l.number-items));
-  choices : (x : ℕ) → x < l.count → NearChoice (l.target.network.now.scale * l.floor)
-      (best_among (numbered_worth l.target.network.now (λ arc. plain_sum arc (lower_in l.target.dest (table_at l.tables)) (l.from + x))) (take l.number-index l.number-items))
+  lower : (x : ℕ) → x < l.count → Near (l.sources.target.now.network.now.scale * l.floor) (slice_index l.part.lower x)
+      (best_among (numbered_worth l.sources.target.now.network.now (λ arc. plain_sum arc (lower_in l.sources.target.now.dest (table_at l.sources.tables.now)) (l.from + x))) (take l.number-index l.number-items));
+  upper : (x : ℕ) → x < l.count → Near (l.sources.target.now.network.now.scale * l.floor) (slice_index l.part.upper x)
+      (best_among (numbered_worth l.sources.target.now.network.now (λ arc. plain_sum arc (upper_in l.sources.target.now.dest (table_at l.sources.tables.now)) (l.from + x))) (take l.number-index l.number-items));
+  choices : (x : ℕ) → x < l.count → NearChoice (l.sources.target.now.network.now.scale * l.floor)
+      (best_among (numbered_worth l.sources.target.now.network.now (λ arc. plain_sum arc (lower_in l.sources.target.now.dest (table_at l.sources.tables.now)) (l.from + x))) (take l.number-index l.number-items))
       (slice_index_or l.part.choices x None)
-      (choice_among (numbered_worth l.target.network.now (λ arc. plain_sum arc (lower_in l.target.dest (table_at l.tables)) (l.from + x))) (take l.number-index l.number-items));
+      (choice_among (numbered_worth l.sources.target.now.network.now (λ arc. plain_sum arc (lower_in l.sources.target.now.dest (table_at l.sources.tables.now)) (l.from + x))) (take l.number-index l.number-items));
 }
