@@ -15,7 +15,7 @@ use std::sync::ledger::Ledger;
 
 /// Where a row lies: its first place, how many of its places are written, and how many it has.
 #[derive(Clone, Copy)]
-struct Extent {
+struct Chunk {
     start: u32,
     len: u32,
     cap: u32,
@@ -25,7 +25,7 @@ struct Extent {
 /// a capacity.
 #[derive(Drop)]
 pub struct RowBank<T: Copy> {
-    extents: Vec<Extent>,
+    chunks: Vec<Chunk>,
     region: Region<T>,
 }
 
@@ -40,27 +40,27 @@ impl<T: Copy> Model for RowBank<T> {
 
     ghost use Rattle.sota_bank.specs.Layout.{rows_in, IsLaidOut};
 
-    ghost view = { λ b. rows_in b.extents.items b.region };
+    ghost view = { λ b. rows_in b.chunks.items b.region };
 
-    ghost invariant = { λ b. IsLaidOut b.extents.items b.region };
+    ghost invariant = { λ b. IsLaidOut b.chunks.items b.region };
 }
 
-/// One extent a capacity, each empty, one after another, and how many places they take together.
-fn empty_extents(alloc: Global, caps: &[u32]) -> Result<(Vec<Extent>, u32), NoMemory>
+/// One chunk a capacity, each empty, one after another, and how many places they take together.
+fn empty_chunks(alloc: Global, caps: &[u32]) -> Result<(Vec<Chunk>, u32), NoMemory>
     requires { sum caps.now ≤ 2 ^ 31 }
     ensures { IfOk result (λ r. AreEmpty r.0.items caps.now × (r.1 ≡ sum caps.now)) }
 {
-    let mut extents = Vec::with_capacity(alloc, caps.len())?;
+    let mut chunks = Vec::with_capacity(alloc, caps.len())?;
     let mut start: u32 = 0;
     for cap in caps {
-        extents.push(Extent {
+        chunks.push(Chunk {
             start,
             len: 0,
             cap: *cap,
         })?;
         start += *cap;
     }
-    Ok((extents, start))
+    Ok((chunks, start))
 }
 
 impl<T: Copy> RowBank<T> {
@@ -71,9 +71,9 @@ impl<T: Copy> RowBank<T> {
         requires { sum caps.now ≤ 2 ^ 31 }
         ensures { IfOk result (λ bank. bank ≡ empty_rows caps.now) }
     {
-        let (extents, places) = empty_extents(alloc, caps)?;
+        let (chunks, places) = empty_chunks(alloc, caps)?;
         let region = Region::new(alloc, places as usize)?;
-        Ok(RowBank { extents, region })
+        Ok(RowBank { chunks, region })
     }
 
     /// Moves the list of the row from the other bank to the same row here.
@@ -83,16 +83,16 @@ impl<T: Copy> RowBank<T> {
         ensures here { self.new ≡ with_list self.old row (list_at other.old row) }
         ensures there { other.new ≡ with_list other.old row [] }
     {
-        let from = other.extents[row];
-        let to = self.extents[row];
+        let from = other.chunks[row];
+        let to = self.chunks[row];
         other.region.move_run(
             from.start as usize,
             &mut self.region,
             to.start as usize,
             from.len as usize,
         );
-        other.extents[row] = Extent { len: 0, ..from };
-        self.extents[row] = Extent {
+        other.chunks[row] = Chunk { len: 0, ..from };
+        self.chunks[row] = Chunk {
             len: from.len,
             ..to
         };
@@ -122,7 +122,7 @@ impl<T: Copy> RowBank<T> {
         ensures rows { result ≡ length self.now }
         ensures within { AllWithin self.now }
     {
-        self.extents.len()
+        self.chunks.len()
     }
 
     /// The length of the row's list.
@@ -130,7 +130,7 @@ impl<T: Copy> RowBank<T> {
         requires { row < length self.now }
         ensures { result ≡ length (list_at self.now row) }
     {
-        self.extents[row].len
+        self.chunks[row].len
     }
 
     /// How many entries the row may have.
@@ -139,7 +139,7 @@ impl<T: Copy> RowBank<T> {
         ensures cap { result ≡ cap_at self.now row }
         ensures within { length (list_at self.now row) ≤ result }
     {
-        self.extents[row].cap
+        self.chunks[row].cap
     }
 
     /// The row's whole list.
@@ -147,9 +147,8 @@ impl<T: Copy> RowBank<T> {
         requires { row < length self.now }
         ensures { result.now ≡ list_at self.now row }
     {
-        let extent = self.extents[row];
-        self.region
-            .slice(extent.start as usize, extent.len as usize)
+        let chunk = self.chunks[row];
+        self.region.slice(chunk.start as usize, chunk.len as usize)
     }
 
     /// The part of the row's list from the index `from` up to `to`, for writing.
@@ -163,8 +162,9 @@ impl<T: Copy> RowBank<T> {
             (ws : List T) → length ws ≡ to - from
             → overwritten list from to ws ≡ take from list ++ (ws ++ drop to list) }
     {
-        let extent = self.extents[row];
-        self.region.slice_mut(extent.start as usize + from as usize, (to - from) as usize)
+        let chunk = self.chunks[row];
+        self.region
+            .slice_mut(chunk.start as usize + from as usize, (to - from) as usize)
     }
 
     /// Appends an entry to the row, and counts the push.
@@ -174,12 +174,12 @@ impl<T: Copy> RowBank<T> {
         ensures rows { self.new ≡ with_list self.old row (list_at self.old row ++ value ∷ []) }
         ensures count { pushes.new ≡ pushes.old + 1 }
     {
-        let extent = self.extents[row];
+        let chunk = self.chunks[row];
         self.region
-            .write(extent.start as usize + extent.len as usize, value);
-        self.extents[row] = Extent {
-            len: extent.len + 1,
-            ..extent
+            .write(chunk.start as usize + chunk.len as usize, value);
+        self.chunks[row] = Chunk {
+            len: chunk.len + 1,
+            ..chunk
         };
         pushes.tick();
     }
@@ -191,12 +191,12 @@ impl<T: Copy> RowBank<T> {
         ensures rows { self.new ≡ with_list self.old row (list_at self.old row ++ values.now) }
         ensures count { pushes.new ≡ pushes.old + length values.now }
     {
-        let extent = self.extents[row];
+        let chunk = self.chunks[row];
         self.region
-            .write_all(extent.start as usize + extent.len as usize, values);
-        self.extents[row] = Extent {
-            len: extent.len + values.len() as u32,
-            ..extent
+            .write_all(chunk.start as usize + chunk.len as usize, values);
+        self.chunks[row] = Chunk {
+            len: chunk.len + values.len() as u32,
+            ..chunk
         };
         pushes.add(values.len() as u64);
     }
@@ -206,10 +206,10 @@ impl<T: Copy> RowBank<T> {
         requires { row < length self.old }
         ensures { self.new ≡ with_list self.old row (take count (list_at self.old row)) }
     {
-        let extent = self.extents[row];
-        self.extents[row] = Extent {
-            len: extent.len.min(count),
-            ..extent
+        let chunk = self.chunks[row];
+        self.chunks[row] = Chunk {
+            len: chunk.len.min(count),
+            ..chunk
         };
     }
 }

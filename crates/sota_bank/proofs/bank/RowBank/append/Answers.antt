@@ -3,8 +3,8 @@ use Rattle.sota_bank.proofs.bank.RowBank.append.Goals as goal
 
 pub invariant_of-self : goal.invariant_of-self
 invariant_of-self g c =
-    rw c.write_all.ensures (append c.self.inside.extents.items c.self.inside.region c.self.invariant c.args.self.now c.self.view_is c.args.row c.requires.row c.index-extent.result.now c.index-extent.ensures c.args.values.now c.requires.room).0
+    rw c.write_all.ensures (append c.self.inside.chunks.items c.self.inside.region c.self.invariant c.args.self.now c.self.view_is c.args.row c.requires.row c.index-chunk.result.now c.index-chunk.ensures c.args.values.now c.requires.room).0
 
 pub returns-clause-rows : goal.returns-clause-rows
 returns-clause-rows g c =
-    rw c.write_all.ensures (append c.self.inside.extents.items c.self.inside.region c.self.invariant c.args.self.now c.self.view_is c.args.row c.requires.row c.index-extent.result.now c.index-extent.ensures c.args.values.now c.requires.room).1
+    rw c.write_all.ensures (append c.self.inside.chunks.items c.self.inside.region c.self.invariant c.args.self.now c.self.view_is c.args.row c.requires.row c.index-chunk.result.now c.index-chunk.ensures c.args.values.now c.requires.room).1

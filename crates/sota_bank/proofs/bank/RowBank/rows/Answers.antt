@@ -2,4 +2,4 @@ use Rattle.sota_bank.proofs.Changes.{all_within}
 use Rattle.sota_bank.proofs.bank.RowBank.rows.Goals as goal
 
 pub returns-clause-within : goal.returns-clause-within
-returns-clause-within g c = all_within c.self.inside.extents.items c.self.inside.region c.self.invariant c.args.self.now c.self.view_is
+returns-clause-within g c = all_within c.self.inside.chunks.items c.self.inside.region c.self.invariant c.args.self.now c.self.view_is

@@ -1,6 +1,0 @@
-use Rattle.std.proofs.Common.{◌≡◌, take, sum}
-use Rattle.sota_bank.specs.Layout.{AreEmpty}
-use Rattle.sota_bank.proofs.bank.empty_extents.Given as goal
-
-abbrev pub invariant-loop-cap : goal.invariant-loop-cap
-invariant-loop-cap l = AreEmpty l.extents.items (take l.cap-index l.caps) × (l.start ≡ sum (take l.cap-index l.caps))
