@@ -96,14 +96,7 @@ pub(crate) fn fill_period<'a, Z: Summer, M: Ledger>(
             from: at,
             count,
         };
-        fill_block(
-            &block,
-            rows,
-            broad,
-            &mut part,
-            &mut workspace,
-            products,
-        );
+        fill_block(&block, rows, broad, &mut part, &mut workspace, products);
         at += count;
     }
     Ok(())
